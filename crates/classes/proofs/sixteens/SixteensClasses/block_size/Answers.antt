@@ -1,0 +1,16 @@
+use mathlib.Core.Path.{ap, _∙_}
+use Rattle.std.proofs.shelf.Results.{err-from-errBy}
+use Rattle.std.specs.declared.result.Result.the-variants.{Err}
+use Rattle.classes.specs.Sixteens.{sixteens}
+use Rattle.classes.proofs.Plans.{block-refused, block-given}
+use Rattle.classes.proofs.SixteensBlocks.{sixteens-length}
+use Rattle.classes.proofs.sixteens.SixteensClasses.block_size.Needs as need
+
+pub returns-in-Break-class : need.returns-in-Break-class
+returns-in-Break-class c =
+    let p = err-from-errBy (c .from-residual .result) (c .from-residual .ensures .1) in
+    block-refused sixteens 256 sixteens-length (c .args .class) (c .from-residual .result) (c .in-Break-class .field-0 .0) (p .1 ∙ ap Err (p .2)) (c .in-Break-class .ensures tt)
+
+pub returns : need.returns
+returns c =
+    block-given sixteens 256 sixteens-length (c .args .class) (c .in-Continue-class .class) (c .block .result) (c .block .ensures) (c .in-Continue-class .ensures tt)

@@ -1,0 +1,4 @@
+pub mod Refusals
+pub mod Plan
+pub mod Sixteens
+pub mod Quarters

@@ -1,0 +1,48 @@
+// The plan of sixteens: 256 classes, each block 16 bytes larger than the one before.
+ghost use mathlib.Core.Path.{_≡_};
+ghost use Prim.Native.Nat.{_<_, _≤_};
+ghost use lib.ListN.{getD};
+ghost use Rattle.classes.specs.Plan.{class-of};
+ghost use Rattle.classes.specs.Sixteens.{sixteens};
+use crate::common::admitted;
+use crate::common::known;
+use crate::common::sixteens_block;
+use crate::common::sixteenth;
+use crate::plan::SizeClasses;
+use crate::refusal::ClassRefusal;
+
+#[derive(Clone, Copy)]
+pub struct Sixteens {}
+
+pub impl SizeClasses for Sixteens as SixteensClasses {
+    ghost blocks = { λ _. sixteens };
+
+    fn classes(&self) -> u32 {
+        256
+    }
+
+    fn class_of(&self, bytes: u32) -> Result<u32, ClassRefusal> {
+        let bytes = admitted(bytes, 4_096)?;
+        Ok(class(bytes))
+    }
+
+    fn block_size(&self, class: u32) -> Result<u32, ClassRefusal> {
+        let class = known(class, 256)?;
+        Ok(block(class))
+    }
+}
+
+fn class(bytes: u32) -> u32
+    requires some { ⌜ 1 ≤ bytes ⌝ }
+    requires small { ⌜ bytes ≤ 4096 ⌝ }
+    ensures { λ r. ⌜ r ≡ class-of sixteens bytes ⌝ }
+{
+    sixteenth(bytes)
+}
+
+fn block(class: u32) -> u32
+    requires { ⌜ class < 256 ⌝ }
+    ensures { λ r. ⌜ r ≡ getD sixteens class 0 ⌝ }
+{
+    sixteens_block(class)
+}

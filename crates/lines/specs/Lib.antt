@@ -1,0 +1,7 @@
+pub mod Refusals
+pub mod Reading
+pub mod Writing
+pub mod Showing
+pub mod Answering
+pub mod Replying
+pub mod Lines

@@ -1,0 +1,10 @@
+-- The number of each refusal of the line program.
+use Prim.Native.Nat.{ℕ}
+use Rattle.profile.specs.Refusals.{refusal-number}
+use Rattle.lines.specs.declared.refusal.LineRefusal.{LineRefusal}
+use Rattle.lines.specs.declared.refusal.LineRefusal.the-variants.{Profile, Unreadable, InputTooLong}
+
+abbrev pub line-number : LineRefusal → ℕ
+line-number (Profile e) = refusal-number e
+line-number Unreadable = 51
+line-number InputTooLong = 52

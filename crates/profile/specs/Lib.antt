@@ -1,0 +1,5 @@
+pub mod Passing
+pub mod Refusals
+pub mod History
+pub mod Noting
+pub mod Stands

@@ -1,0 +1,34 @@
+// The calls on a profile.
+ghost use mathlib.Core.Path.{_≡_};
+ghost use mathlib.Core.Bool.{false};
+ghost use Rattle.std.specs.Results.{isOk};
+ghost use Rattle.profile.specs.History.{fresh};
+ghost use Rattle.profile.specs.Noting.{note-answer, after-note};
+ghost use Rattle.profile.specs.Stands.{setting, Stands, Told};
+use crate::noting::record_of;
+use crate::pending::Pending;
+use crate::profile::Profile;
+use crate::refusal::Refusal;
+use classes::plan::SizeClasses;
+
+impl<P: SizeClasses> Profile<P> {
+    // A new profile over a plan: nothing is noted.
+    pub fn new(plan: P) -> Profile<P>
+        ensures plan { λ r. ⌜ r .plan ≡ plan ⌝ }
+        ensures stands { λ r. ⌜ Stands (setting (blocks plan)) fresh r ⌝ }
+    {
+        Profile {
+            plan,
+            pending: Pending::empty(),
+        }
+    }
+
+    // Notes so many requests of so many bytes as one record; the number of records then held.
+    pub fn note(&mut self, bytes: u32, count: u32) -> Result<u32, Refusal>
+        ensures told { λ r. ⌜ Told blocks (now (self .entry)) (now (self .exit)) (λ s h. after-note s h bytes count) (λ s h. note-answer s h bytes count) r ⌝ }
+        ensures refused { λ r. ⌜ (isOk r ≡ false → now (self .exit) ≡ now (self .entry)) ⌝ }
+    {
+        let item = record_of(&self.plan, bytes, count)?;
+        self.pending.add(item, 64, 65_536)
+    }
+}

@@ -1,0 +1,80 @@
+// The table of pending records: which request becomes which record, and whether there is room for it.
+ghost use mathlib.Core.Path.{_≡_};
+ghost use mathlib.Core.Bool.{true, false};
+ghost use Prim.Native.Nat.{ℕ, _+_, _<_, _≤_};
+ghost use Rattle.std.specs.Results.{Cases};
+ghost use Rattle.profile.specs.Noting.{count-answer, record-answer, room-answer};
+ghost use Rattle.profile.specs.Stands.{Emptied, Pushed, Added};
+use crate::pending::Pending;
+use crate::pending::Record;
+use crate::refusal::Refusal;
+use crate::refusal::RefusalFromClass;
+use classes::plan::SizeClasses;
+
+// A count from 1 to 65,535.
+fn counted(count: u32) -> Result<u16, Refusal>
+    ensures { λ r. ⌜ r ≡ count-answer count ⌝ }
+{
+    if count == 0 || count > 65_535 {
+        return Err(Refusal::CountOutOfRange);
+    }
+    Ok(count as u16)
+}
+
+// The record that a request becomes.
+pub(crate) fn record_of<P: SizeClasses>(plan: &P, bytes: u32, count: u32) -> Result<Record, Refusal>
+    ensures { λ r. ⌜ r ≡ record-answer (blocks (now (plan .entry))) bytes count ⌝ }
+{
+    let class = plan.class_of(bytes)?;
+    let count = counted(count)?;
+    Ok(Record {
+        class: class as u8,
+        count,
+    })
+}
+
+impl Pending {
+    pub(crate) fn empty() -> Pending
+        ensures { λ r. ⌜ Emptied r ⌝ }
+    {
+        Pending {
+            records: [Record { class: 0, count: 0 }; 512],
+            len: 0,
+            total: 0,
+        }
+    }
+
+    // Whether there is room for one record more of this count, among at most so many records of at most this total.
+    fn admits(&self, count: u16, records: u32, total: u32) -> Result<(), Refusal>
+        ensures { λ r. ⌜ r ≡ room-answer records total (now (self .entry) .len) (now (self .entry) .total) count ⌝ }
+    {
+        if self.len as u64 >= records as u64 {
+            return Err(Refusal::RecordsFull);
+        }
+        if self.total as u64 + count as u64 > total as u64 {
+            return Err(Refusal::TotalTooLarge);
+        }
+        Ok(())
+    }
+
+    fn push(&mut self, item: Record)
+        requires room { ⌜ now self .len < 512 ⌝ }
+        requires total { ⌜ now self .total + item .count ≤ 33554432 ⌝ }
+        ensures { λ _. ⌜ Pushed (now (self .entry)) item (now (self .exit)) ⌝ }
+    {
+        self.records[self.len] = item;
+        self.len += 1;
+        self.total += item.count as u32;
+    }
+
+    // One record more, if there is room for it; the number of records then held.
+    pub(crate) fn add(&mut self, item: Record, records: u32, total: u32) -> Result<u32, Refusal>
+        requires few { ⌜ records ≤ 512 ⌝ }
+        requires light { ⌜ total ≤ 33554432 ⌝ }
+        ensures { λ r. ⌜ Added records total (now (self .entry)) item r (now (self .exit)) ⌝ }
+    {
+        self.admits(item.count, records, total)?;
+        self.push(item);
+        Ok(self.len as u32)
+    }
+}

@@ -22,7 +22,7 @@ impl LineRefusal {
         ensures { λ r. ⌜ r ≡ line-number self ⌝ }
     {
         match self {
-            LineRefusal::Profile(refusal) => refusal.number(),
+            LineRefusal::Profile(inner) => inner.number(),
             LineRefusal::Unreadable => 51,
             LineRefusal::InputTooLong => 52,
         }

@@ -6,13 +6,14 @@ use Prim.Native.Nat.{ℕ, _+_, _<_, _≤_}
 use native.Mathlib.Omega.{arith}
 use lib.Dec.{eqb, ltb, leb}
 use lib.ListN.{length}
+use Rattle.std.specs.Orderings.{Decides}
 use Rattle.std.specs.Results.{isOk, mapped, Cases}
 use Rattle.std.specs.declared.result.Result.{Result}
 use Rattle.std.specs.declared.result.Result.the-variants.{Ok, Err}
 use Rattle.std.proofs.shelf.Elements.{all-push}
 use Rattle.std.proofs.shelf.Lists.{length-push, map-push}
 use Rattle.std.proofs.shelf.Sums.{sumBy-push}
-use Rattle.std.proofs.shelf.Tests.{cond-both, eqb-false, ltb-false, leb-false, or-parts}
+use Rattle.std.proofs.shelf.Tests.{cond-both, eqb-false, ltb-false, leb-false, or-parts, ne-eqb, le-ltb, lt-leb, false≢true}
 use Rattle.classes.specs.Plan.{largest, class-of, request-answer}
 use Rattle.profile.specs.declared.pending.Record.{Record}
 use Rattle.profile.specs.declared.pending.Pending.{Pending}
@@ -20,9 +21,9 @@ use Rattle.profile.specs.declared.profile.Profile.{Profile}
 use Rattle.profile.specs.declared.refusal.Refusal.{Refusal}
 use Rattle.profile.specs.declared.refusal.Refusal.the-variants.{Class}
 use Rattle.profile.specs.History.{Note, History, Setting}
-use Rattle.profile.specs.Noting.{count-answer, record-answer, room-answer, weight, note-answer, noted, after-note}
+use Rattle.profile.specs.Noting.{count-answer, record-answer, room-answer, weight, note-answer, noted, after-note, Takes}
 use Rattle.profile.specs.Passing.{passing}
-use Rattle.profile.specs.Stands.{setting, kept-as, Sound, Kept, Stands, Told, Pushed, Added}
+use Rattle.profile.specs.Stands.{setting, kept-as, Sound, Kept, Stands, Told, Told-when, Pushed, Added}
 
 refused-not-taken : {T : Type 0} (e : Refusal) (x : T) → Err e ≡ Ok x → ⊥
 refused-not-taken e x is = let z : _≡_ {A = ℕ} 0 1 = cc in omega arith
@@ -56,14 +57,35 @@ module _ (bs : List ℕ) (b c : ℕ) (x : Record) where
       (sym e)
 
 -- where there is room
-roomy : (most total len held c n : ℕ) → Ok n ≡ passing (λ e. e) (room-answer most total len held c) (λ _. Ok (len + 1)) → (len < most) × (held + c ≤ total)
-roomy most total len held c n e =
-    cond-both (leb most len) _ _ (λ q. passing (λ e. e) q (λ _. Ok (len + 1)) ≡ Ok n → (len < most) × (held + c ≤ total))
-    (λ _ z. absurd (refused-not-taken _ _ z))
-    (λ few. cond-both (ltb total (held + c)) _ _ (λ q. passing (λ e. e) q (λ _. Ok (len + 1)) ≡ Ok n → (len < most) × (held + c ≤ total))
-    (λ _ z. absurd (refused-not-taken _ _ z))
-    (λ light _. (leb-false _ _ few, ltb-false _ _ light)))
-    (sym e)
+module _ (most total len held c : ℕ) where
+  abbrev room-then : Result (Unit {0}) Refusal → Result ℕ Refusal
+  room-then q = passing (λ e. e) q (λ _. Ok (len + 1))
+
+  roomy : isOk (room-then (room-answer most total len held c)) ≡ true → (len + 1 ≤ most) × (held + c ≤ total)
+  roomy =
+      cond-both (leb most len) _ _ (λ q. isOk (room-then q) ≡ true → (len + 1 ≤ most) × (held + c ≤ total))
+      (λ _ z. absurd (false≢true z))
+      (λ few. cond-both (ltb total (held + c)) _ _ (λ q. isOk (room-then q) ≡ true → (len + 1 ≤ most) × (held + c ≤ total))
+      (λ _ z. absurd (false≢true z))
+      (λ light _. (omega (arith, leb-false _ _ few), ltb-false _ _ light)))
+
+-- when a note is taken
+module _ (s : Setting) (h : History) (b c : ℕ) where
+  by-record : (q : Result Record Refusal) → q ≡ record-answer (s .blocks) b c →
+      isOk (passing (λ e. e) q (λ _. room-then (s .records) (s .total) (length (h .pending)) (weight (h .pending)) c (room-answer (s .records) (s .total) (length (h .pending)) (weight (h .pending)) c))) ≡ true →
+      Takes s h b c
+  by-record (Err e) is t = absurd (false≢true t)
+  by-record (Ok x) is t =
+      let n = recorded (s .blocks) b c x is .1 in
+      let room = roomy (s .records) (s .total) (length (h .pending)) (weight (h .pending)) c t in
+      record { some = n .some; fits = n .fits; made = n .made; small = n .small; few = room .0; light = room .1 }
+
+  when-taken : Takes s h b c → isOk (note-answer s h b c) ≡ true
+  when-taken t =
+      rw (ne-eqb b 0 (λ e. omega (arith, t .some)), le-ltb _ _ (t .fits), ne-eqb c 0 (λ e. omega (arith, t .made)), le-ltb _ _ (t .small), lt-leb (s .records) (length (h .pending)) (omega (arith, t .few)), le-ltb _ _ (t .light)) refl
+
+  pub taken-when : Decides (isOk (note-answer s h b c)) (Takes s h b c)
+  taken-when = (by-record (record-answer (s .blocks) b c) refl, when-taken)
 
 module _ {P : Type 0} (blocks : P → List ℕ) (p : Profile P) (b c : ℕ) (x : Record) (is : Ok x ≡ record-answer (blocks (p .plan)) b c) where
   abbrev s : Setting
@@ -92,7 +114,7 @@ module _ {P : Type 0} (blocks : P → List ℕ) (p : Profile P) (b c : ℕ) (x :
       let one = added .after in
       let l = length-push (h .pending) note in
       let w = sumBy-push (λ (n : Note). n .count) (h .pending) note in
-      let room = roomy 64 65536 (p .pending .len) (p .pending .total) (x .count) n (added .answer) in
+      let room = roomy 64 65536 (p .pending .len) (p .pending .total) (x .count) (sym (ap isOk (added .answer))) in
       record {
         long = omega (arith, one .len, k .long, l);
         records =
@@ -121,3 +143,8 @@ module _ {P : Type 0} (blocks : P → List ℕ) (p : Profile P) (b c : ℕ) (x :
   pub unchanged : (r : Result ℕ Refusal) (m : Pending) → Added 64 65536 (p .pending) x r m → isOk r ≡ false → record { plan = p .plan; pending = m } ≡ p
   unchanged (Ok n) m added z = absurd (let f : _≡_ {A = ℕ} 0 1 = cc in omega arith)
   unchanged (Err e) m added z = ap (λ (q : Pending). record { plan = p .plan; pending = q }) (added .after)
+
+-- the same of the answer
+pub told-when : {P : Type 0} (blocks : P → List ℕ) (p q : Profile P) (b c : ℕ) (r : Result ℕ Refusal) → Told blocks p q (λ s h. after-note s h b c) (λ s h. note-answer s h b c) r → Told-when blocks p (λ s h. Takes s h b c) (isOk r)
+told-when blocks p q b c r t h stands =
+    subst (λ (a : Result ℕ Refusal). Decides (isOk a) (Takes (setting (blocks (p .plan))) h b c)) (sym (t .answers h stands)) (taken-when (setting (blocks (p .plan))) h b c)

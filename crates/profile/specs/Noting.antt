@@ -1,14 +1,14 @@
 -- What a note answers and leaves, by the history alone.
 use mathlib.Core.Bool.{Bool, cond, _||_}
 use mathlib.Core.List.{List, [], _∷_, _++_}
-use Prim.Native.Nat.{ℕ, _+_}
+use Prim.Native.Nat.{ℕ, _+_, _≤_}
 use lib.Dec.{eqb, ltb, leb}
 use lib.ListN.{length}
 use Rattle.std.specs.Results.{isOk}
 use Rattle.std.specs.shelf.Lists.{sumBy}
 use Rattle.std.specs.declared.result.Result.{Result}
 use Rattle.std.specs.declared.result.Result.the-variants.{Ok, Err}
-use Rattle.classes.specs.Plan.{class-answer}
+use Rattle.classes.specs.Plan.{largest, class-answer}
 use Rattle.profile.specs.declared.pending.Record.{Record}
 use Rattle.profile.specs.declared.refusal.Refusal.{Refusal}
 use Rattle.profile.specs.declared.refusal.Refusal.the-variants.{Class, CountOutOfRange, RecordsFull, TotalTooLarge}
@@ -45,3 +45,12 @@ noted h bytes count = record { pending = h .pending ++ (record { bytes = bytes; 
 
 abbrev pub after-note : Setting → History → ℕ → ℕ → History
 after-note s h bytes count = cond (isOk (note-answer s h bytes count)) (noted h bytes count) h
+
+-- the law above: when a note is taken
+pub record Takes (s : Setting) (h : History) (bytes count : ℕ) : Type 0 where
+  pub some : 1 ≤ bytes
+  pub fits : bytes ≤ largest (s .blocks)
+  pub made : 1 ≤ count
+  pub small : count ≤ 65535
+  pub few : length (h .pending) + 1 ≤ s .records
+  pub light : weight (h .pending) + count ≤ s .total

@@ -1,8 +1,10 @@
 -- When a profile is what a history says, and what one call does to it.
 use mathlib.Core.Path.{_≡_}
+use mathlib.Core.Bool.{Bool}
 use mathlib.Core.List.{List, [], _∷_, _++_, map}
 use Prim.Native.Nat.{ℕ, _+_, _≤_}
 use lib.ListN.{length, take}
+use Rattle.std.specs.Orderings.{Decides}
 use Rattle.std.specs.Results.{Cases}
 use Rattle.std.specs.shelf.Lists.{All}
 use Rattle.std.specs.declared.result.Result.{Result}
@@ -55,6 +57,10 @@ pub record Told {P A : Type 0} (blocks : P → List ℕ) (p q : Profile P) (afte
   pub stands : (h : History) → Stands (setting (blocks (p .plan))) h p → Stands (setting (blocks (p .plan))) (after (setting (blocks (p .plan))) h) q
   pub answers : (h : History) → Stands (setting (blocks (p .plan))) h p → r ≡ answer (setting (blocks (p .plan))) h
 
+-- wherever the profile stood at a history h, the test is true exactly when h has it so
+abbrev pub Told-when : {P : Type 0} → (P → List ℕ) → Profile P → (Setting → History → Type 0) → Bool → Type 0
+Told-when blocks p when test = (h : History) → Stands (setting (blocks (p .plan))) h p → Decides test (when (setting (blocks (p .plan))) h)
+
 -- the steps of a note on the table
 
 pub record Emptied (p : Pending) : Type 0 where
@@ -64,8 +70,13 @@ pub record Emptied (p : Pending) : Type 0 where
 pub record Pushed (p : Pending) (x : Record) (q : Pending) : Type 0 where
   pub len : q .len ≡ p .len + 1
   pub held : held q ≡ held p ++ (x ∷ [])
+  pub total : q .total ≡ p .total
+
+pub record Taken (p : Pending) (x : Record) (q : Pending) : Type 0 where
+  pub len : q .len ≡ p .len + 1
+  pub held : held q ≡ held p ++ (x ∷ [])
   pub total : q .total ≡ p .total + x .count
 
 pub record Added (records total : ℕ) (p : Pending) (x : Record) (r : Result ℕ Refusal) (q : Pending) : Type 0 where
   pub answer : r ≡ passing (λ e. e) (room-answer records total (p .len) (p .total) (x .count)) (λ _. Ok (p .len + 1))
-  pub after : Cases r (λ _. Pushed p x q) (λ _. q ≡ p)
+  pub after : Cases r (λ _. Taken p x q) (λ _. q ≡ p)

@@ -48,23 +48,22 @@ impl Pending {
     fn admits(&self, count: u16, records: u32, total: u32) -> Result<(), Refusal>
         ensures { λ r. ⌜ r ≡ room-answer records total (now (self .entry) .len) (now (self .entry) .total) count ⌝ }
     {
-        if self.len as u64 >= records as u64 {
+        if self.len as u64 >= u64::from(records) {
             return Err(Refusal::RecordsFull);
         }
-        if self.total as u64 + count as u64 > total as u64 {
+        if u64::from(self.total) + u64::from(count) > u64::from(total) {
             return Err(Refusal::TotalTooLarge);
         }
         Ok(())
     }
 
+    // One record more; the total is still that of those before it.
     fn push(&mut self, item: Record)
-        requires room { ⌜ now self .len < 512 ⌝ }
-        requires total { ⌜ now self .total + item .count ≤ 33554432 ⌝ }
+        requires { ⌜ now self .len < 512 ⌝ }
         ensures { λ _. ⌜ Pushed (now (self .entry)) item (now (self .exit)) ⌝ }
     {
         self.records[self.len] = item;
         self.len += 1;
-        self.total += item.count as u32;
     }
 
     // One record more, if there is room for it; the number of records then held.
@@ -75,6 +74,7 @@ impl Pending {
     {
         self.admits(item.count, records, total)?;
         self.push(item);
+        self.total += u32::from(item.count);
         Ok(self.len as u32)
     }
 }

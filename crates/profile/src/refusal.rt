@@ -24,7 +24,7 @@ impl Refusal {
         ensures { λ r. ⌜ r ≡ refusal-number self ⌝ }
     {
         match self {
-            Refusal::Class(refusal) => refusal.number(),
+            Refusal::Class(inner) => inner.number(),
             Refusal::CountOutOfRange => 31,
             Refusal::RecordsFull => 32,
             Refusal::TotalTooLarge => 33,

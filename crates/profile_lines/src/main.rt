@@ -47,6 +47,17 @@ mod tests {
         answers(rt.alloc(), b"n 33 2\nn 5 1\n", "n 1\nn 2\n")
     }
 
+    // 64 notes fill a profile, long before their counts do
+    #[test]
+    fn most_records(rt: LibcRuntime) -> Result<(), Fail> {
+        let mut input = Vec::new(rt.alloc());
+        for _ in 0..65 {
+            input.extend_from_slice(b"n 1 1\n")?;
+        }
+        let text = transcript(rt.alloc(), &input)?;
+        check(text.as_str().ends_with("\nn 63\nn 64\n! 65 32\n"))
+    }
+
     // 32,768 bytes are run, as one line here, and one byte more is not
     #[test]
     fn most_input(rt: LibcRuntime) -> Result<(), Fail> {

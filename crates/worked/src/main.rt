@@ -1,17 +1,60 @@
-// Prints worked cases: what the library says of a request, and what a plain search over the blocks says.
+// Prints worked cases: what the library says of some requests, and what a plain search over the blocks says.
 use classes::plan::SizeClasses;
 use classes::quarters::Quarters;
 use classes::quarters::QuartersClasses;
 use classes::refusal::ClassRefusal;
 use classes::sixteens::Sixteens;
 use classes::sixteens::SixteensClasses;
+use std::fmt;
 use std::io;
 
-// Requests at the edges of both plans.
-const REQUESTS: [u32; 10] = [0, 1, 33, 64, 65, 129, 4_096, 4_097, 1_048_576, 1_048_577];
+// Requests at the edges of both plans, with counts.
+const EDGES: [(u32, u32); 10] = [
+    (0, 1),
+    (1, 1),
+    (33, 3),
+    (64, 2),
+    (65, 2),
+    (129, 10),
+    (4_096, 2),
+    (4_097, 2),
+    (1_048_576, 65_535),
+    (1_048_577, 1),
+];
 
-// Requests with their counts, for a total.
+// Requests with counts, for a total.
 const COUNTED: [(u32, u32); 4] = [(33, 2), (5, 1), (200, 3), (48, 4)];
+
+// A request's class and block, and what so many such requests consume: a whole block for each.
+#[derive(Drop)]
+struct Served {
+    class: u32,
+    block: u32,
+    consumed: u64,
+}
+
+#[derive(Drop)]
+enum Said {
+    Served(Served),
+    Refused(ClassRefusal),
+}
+
+impl fmt::Display for Said as SaidDisplay {
+    fn fmt<W: fmt::Write>(&self, f: &mut fmt::Formatter<W>) -> fmt::Result {
+        match self {
+            Said::Served(served) => {
+                let class = served.class;
+                let block = served.block;
+                let consumed = served.consumed;
+                write!(f, "class {class}, block {block}, consumed {consumed}")
+            }
+            Said::Refused(refusal) => {
+                let number = refusal.number();
+                write!(f, "refused {number}")
+            }
+        }
+    }
+}
 
 // The lowest class whose block is at least the request, by looking at one block after the other.
 fn search<P: SizeClasses>(plan: &P, bytes: u32) -> Result<u32, ClassRefusal> {
@@ -26,83 +69,84 @@ fn search<P: SizeClasses>(plan: &P, bytes: u32) -> Result<u32, ClassRefusal> {
     Err(ClassRefusal::AboveLargest)
 }
 
-// What `count` requests of `bytes` bytes consume: a whole block for each.
-fn consumed<P: SizeClasses>(plan: &P, bytes: u32, count: u32) -> Result<u64, ClassRefusal> {
-    let class = plan.class_of(bytes)?;
+fn serve<P: SizeClasses>(
+    plan: &P,
+    found: Result<u32, ClassRefusal>,
+    count: u32,
+) -> Result<Served, ClassRefusal> {
+    let class = found?;
     let block = plan.block_size(class)?;
-    Ok(u64::from(block) * u64::from(count))
+    Ok(Served {
+        class,
+        block,
+        consumed: u64::from(block) * u64::from(count),
+    })
+}
+
+fn say<P: SizeClasses>(plan: &P, found: Result<u32, ClassRefusal>, count: u32) -> Said {
+    match serve(plan, found, count) {
+        Ok(served) => Said::Served(served),
+        Err(refusal) => Said::Refused(refusal),
+    }
 }
 
 fn print_request<P: SizeClasses>(
-    rt: &impl Print,
+    rt: &LibcRuntime,
     plan: &P,
     name: &str,
     bytes: u32,
+    count: u32,
 ) -> io::Result<()> {
-    print!(rt, "{name}: {bytes} bytes: ")?;
-    print_class(rt, plan, plan.class_of(bytes))?;
-    if let Ok(sum) = consumed(plan, bytes, 1) {
-        print!(rt, ", consumed {sum}")?;
-    }
-    print!(rt, "; by search ")?;
-    print_class(rt, plan, search(plan, bytes))?;
-    println!(rt, "")
+    let said_first = say(plan, plan.class_of(bytes), count);
+    let by_search = say(plan, search(plan, bytes), count);
+    println!(
+        rt,
+        "{name}: {count} x {bytes} bytes: {said_first}; by search {by_search}"
+    )
 }
 
 fn print_class<P: SizeClasses>(
-    rt: &impl Print,
+    rt: &LibcRuntime,
     plan: &P,
-    found: Result<u32, ClassRefusal>,
+    name: &str,
+    class: u32,
 ) -> io::Result<()> {
-    match found {
-        Ok(class) => {
-            print!(rt, "class {class}, ")?;
-            print_block(rt, plan.block_size(class))
-        }
-        Err(refusal) => print_refusal(rt, refusal),
-    }
+    let said_of = say(plan, Ok(class), 1);
+    println!(rt, "{name}: class {class}: {said_of}")
 }
 
-fn print_block(rt: &impl Print, found: Result<u32, ClassRefusal>) -> io::Result<()> {
-    match found {
-        Ok(block) => print!(rt, "block {block}"),
-        Err(refusal) => print_refusal(rt, refusal),
-    }
-}
-
-fn print_refusal(rt: &impl Print, refusal: ClassRefusal) -> io::Result<()> {
-    let number = refusal.number();
-    print!(rt, "refused {number}")
-}
-
-fn print_edge<P: SizeClasses>(rt: &impl Print, plan: &P, name: &str, class: u32) -> io::Result<()> {
-    print!(rt, "{name}: class {class}: ")?;
-    print_block(rt, plan.block_size(class))?;
-    println!(rt, "")
-}
-
-fn print_total<P: SizeClasses>(rt: &impl Print, plan: &P, name: &str) -> io::Result<()> {
-    let mut total = 0u64;
+// What the counted requests consume together.
+fn total<P: SizeClasses>(plan: &P, by_search: bool) -> Result<u64, ClassRefusal> {
+    let mut sum = 0u64;
     for (bytes, count) in COUNTED.iter() {
-        match consumed(plan, *bytes, *count) {
-            Ok(sum) => {
-                println!(rt, "{name}: {count} x {bytes} bytes: consumed {sum}")?;
-                total = total.saturating_add(sum);
-            }
-            Err(refusal) => print_refusal(rt, refusal)?,
-        }
+        let found = if by_search {
+            search(plan, *bytes)
+        } else {
+            plan.class_of(*bytes)
+        };
+        sum = sum.saturating_add(serve(plan, found, *count)?.consumed);
     }
-    println!(rt, "{name}: consumed {total} in all")
+    Ok(sum)
 }
 
-fn print_plan<P: SizeClasses>(rt: &impl Print, plan: &P, name: &str) -> io::Result<()> {
+fn print_total<P: SizeClasses>(rt: &LibcRuntime, plan: &P, name: &str) -> io::Result<()> {
+    if let (Ok(sum), Ok(by_search)) = (total(plan, false), total(plan, true)) {
+        println!(rt, "{name}: consumed {sum} in all; by search {by_search}")?;
+    }
+    Ok(())
+}
+
+fn print_plan<P: SizeClasses>(rt: &LibcRuntime, plan: &P, name: &str) -> io::Result<()> {
     let classes = plan.classes();
     println!(rt, "{name}: {classes} classes")?;
-    for bytes in REQUESTS.iter() {
-        print_request(rt, plan, name, *bytes)?;
+    for (bytes, count) in EDGES.iter() {
+        print_request(rt, plan, name, *bytes, *count)?;
     }
-    print_edge(rt, plan, name, classes.saturating_sub(1))?;
-    print_edge(rt, plan, name, classes)?;
+    print_class(rt, plan, name, classes.saturating_sub(1))?;
+    print_class(rt, plan, name, classes)?;
+    for (bytes, count) in COUNTED.iter() {
+        print_request(rt, plan, name, *bytes, *count)?;
+    }
     print_total(rt, plan, name)
 }
 

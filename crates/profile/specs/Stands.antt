@@ -67,16 +67,12 @@ pub record Emptied (p : Pending) : Type 0 where
   pub len : p .len ≡ 0
   pub total : p .total ≡ 0
 
-pub record Pushed (p : Pending) (x : Record) (q : Pending) : Type 0 where
+-- one record more, and this total
+pub record Pushed (p : Pending) (x : Record) (sum : ℕ) (q : Pending) : Type 0 where
   pub len : q .len ≡ p .len + 1
   pub held : held q ≡ held p ++ (x ∷ [])
-  pub total : q .total ≡ p .total
-
-pub record Taken (p : Pending) (x : Record) (q : Pending) : Type 0 where
-  pub len : q .len ≡ p .len + 1
-  pub held : held q ≡ held p ++ (x ∷ [])
-  pub total : q .total ≡ p .total + x .count
+  pub total : q .total ≡ sum
 
 pub record Added (records total : ℕ) (p : Pending) (x : Record) (r : Result ℕ Refusal) (q : Pending) : Type 0 where
   pub answer : r ≡ passing (λ e. e) (room-answer records total (p .len) (p .total) (x .count)) (λ _. Ok (p .len + 1))
-  pub after : Cases r (λ _. Taken p x q) (λ _. q ≡ p)
+  pub after : Cases r (λ _. Pushed p x (p .total + x .count) q) (λ _. q ≡ p)

@@ -1,8 +1,6 @@
 // The table of pending records: which request becomes which record, and whether there is room for it.
 ghost use mathlib.Core.Path.{_≡_};
-ghost use mathlib.Core.Bool.{true, false};
-ghost use Prim.Native.Nat.{ℕ, _+_, _<_, _≤_};
-ghost use Rattle.std.specs.Results.{Cases};
+ghost use Prim.Native.Nat.{_<_, _≤_};
 ghost use Rattle.profile.specs.Noting.{count-answer, record-answer, room-answer};
 ghost use Rattle.profile.specs.Stands.{Emptied, Pushed, Added};
 use crate::pending::Pending;
@@ -60,7 +58,7 @@ impl Pending {
     // One record more; the total is still that of those before it.
     fn push(&mut self, item: Record)
         requires { ⌜ now self .len < 512 ⌝ }
-        ensures { λ _. ⌜ Pushed (now (self .entry)) item (now (self .exit)) ⌝ }
+        ensures { λ _. ⌜ Pushed (now (self .entry)) item (now (self .entry) .total) (now (self .exit)) ⌝ }
     {
         self.records[self.len] = item;
         self.len += 1;

@@ -1,5 +1,5 @@
 -- The class of a request in any plan.
-use mathlib.Core.Path.{_≡_, refl, sym, ap, subst, _∙_}
+use mathlib.Core.Path.{_≡_, sym, ap, subst, _∙_}
 use mathlib.Core.Bool.{Bool, true, false, cond}
 use mathlib.Core.List.{List, [], _∷_}
 use mathlib.Core.Logic.{inl, inr}
@@ -11,7 +11,6 @@ use Rattle.std.specs.Keys.{unsigned}
 use Rattle.std.specs.shelf.Lawful.{sorted-test}
 use Rattle.std.specs.shelf.Lists.{leading}
 use Rattle.std.proofs.shelf.Lawful.{sorted-from-test, below-from-sorted}
-use Rattle.std.proofs.shelf.Sums.{leading-le-length}
 use Rattle.std.proofs.shelf.Tests.{lt-ltb, le-ltb, ltb-true, ltb-false, eqb-true, eqb-false, cases-bool, cases-eq, cases-lt, cond-both}
 use Rattle.std.specs.Results.{mapped}
 use Rattle.std.specs.declared.result.Result.{Result}
@@ -102,19 +101,19 @@ module _ (bs : List ℕ) (plan : Plan bs) where
       (λ a. (omega (arith, eqb-false b 0 e), lowest b (ltb-false _ _ a))))
 
   -- both clauses of `class_of`, from the first
-  pub record Told (b : ℕ) (r : Result ℕ ClassRefusal) : Type 0 where
+  pub record Classing (b : ℕ) (r : Result ℕ ClassRefusal) : Type 0 where
     pub value : r ≡ class-answer bs b
     pub lowest : Classed bs b r
 
-  told : (b : ℕ) (r : Result ℕ ClassRefusal) → r ≡ class-answer bs b → Told b r
+  told : (b : ℕ) (r : Result ℕ ClassRefusal) → r ≡ class-answer bs b → Classing b r
   told b r v = record { value = v; lowest = subst (Classed bs b) (sym v) (classed b) }
 
   -- where the request is refused, and where it is not
   module _ (b most : ℕ) (top : largest bs ≡ most) where
-    pub told-refused : (r : Result ℕ ClassRefusal) (e : ClassRefusal) → r ≡ Err e → Err e ≡ request-answer most b → Told b r
+    pub told-refused : (r : Result ℕ ClassRefusal) (e : ClassRefusal) → r ≡ Err e → Err e ≡ request-answer most b → Classing b r
     told-refused r e is why = told b r (is ∙ ap (mapped (class-of bs) (λ e. e)) (why ∙ ap (λ m. request-answer m b) (sym top)))
 
-    pub told-class : (k c : ℕ) → c ≡ class-of bs k → Ok k ≡ request-answer most b → Told b (Ok c)
+    pub told-class : (k c : ℕ) → c ≡ class-of bs k → Ok k ≡ request-answer most b → Classing b (Ok c)
     told-class k c is why = told b (Ok c) (ap Ok is ∙ ap (mapped (class-of bs) (λ e. e)) (why ∙ ap (λ m. request-answer m b) (sym top)))
 
 -- the clause of `block_size`, likewise

@@ -1,6 +1,6 @@
 -- The plan of quarters.
 use mathlib.Core.Path.{_≡_, refl, sym, ap, _∙_}
-use mathlib.Core.Bool.{Bool, true, false, cond, _&&_}
+use mathlib.Core.Bool.{Bool, true, cond, _&&_}
 use Prim.Native.Nat.{ℕ, zero, suc, _+_, _-_, _*_, _/_, _%_, _^_, _<_, _≤_}
 use native.Mathlib.Nat.{add-mul, pow-le-pow-right}
 use native.Mathlib.Numerals.{add-one}
@@ -13,7 +13,7 @@ use Rattle.std.proofs.shelf.Bits.{leading-top, pow-pos, pow-add, pow-below, one
 use Rattle.std.proofs.shelf.Counted.{getD-map-counting}
 use Rattle.std.proofs.shelf.Tests.{lt-ltb, le-ltb, and-parts, eqb-true, cases-eq, cases-lt}
 use Rattle.classes.specs.Plan.{Plan, largest, class-of}
-use Rattle.classes.specs.Quarters.{quarter-block, quarters}
+use Rattle.classes.specs.Quarters.{quarter-block, quarters-block, quarters}
 use Rattle.classes.proofs.Plans.{plan-from-test, class-is}
 
 pub quarters-length : length quarters ≡ 60
@@ -28,12 +28,9 @@ pub quarters-plan : Plan quarters
 unfolding quarters
 quarters-plan = plan-from-test quarters tt (lit≤ tt) (lit≤ tt) (lit≤ tt) (lit≤ tt)
 
-abbrev block-at : ℕ → ℕ
-block-at c = cond (ltb c 4) (16 * (c + 1)) (quarter-block ((c - 4) / 4) ((c - 4) % 4 + 1))
-
-quarters-at : (c : ℕ) → c < 60 → getD quarters c 0 ≡ block-at c
+quarters-at : (c : ℕ) → c < 60 → getD quarters c 0 ≡ quarters-block c
 unfolding quarters
-quarters-at c l = getD-map-counting block-at 0 60 c c 0 l (omega arith)
+quarters-at c l = getD-map-counting quarters-block 0 60 c c 0 l (omega arith)
 
 pub quarters-low : (c : ℕ) → c < 4 → getD quarters c 0 ≡ 16 * (c + 1)
 quarters-low c l = quarters-at c (omega arith) ∙ rw (lt-ltb c 4 l) refl

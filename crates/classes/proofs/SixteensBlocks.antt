@@ -6,7 +6,7 @@ use lib.Dec.{lit≤}
 use lib.ListN.{length, getD}
 use Rattle.std.proofs.shelf.Counted.{getD-map-counting}
 use Rattle.classes.specs.Plan.{Plan, largest, class-of}
-use Rattle.classes.specs.Sixteens.{sixteens}
+use Rattle.classes.specs.Sixteens.{sixteens-block, sixteens}
 use Rattle.classes.proofs.Plans.{plan-from-test, class-is}
 
 pub sixteens-length : length sixteens ≡ 256
@@ -19,7 +19,7 @@ sixteens-largest = refl
 
 pub sixteens-at : (c : ℕ) → c < 256 → getD sixteens c 0 ≡ 16 * (c + 1)
 unfolding sixteens
-sixteens-at c l = getD-map-counting (λ c. 16 * (c + 1)) 0 256 c c 0 l (omega arith)
+sixteens-at c l = getD-map-counting sixteens-block 0 256 c c 0 l (omega arith)
 
 pub sixteens-plan : Plan sixteens
 unfolding sixteens

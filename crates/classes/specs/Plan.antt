@@ -42,13 +42,13 @@ known-answer n class = cond (ltb class n) (Ok class) (Err NoSuchClass)
 abbrev pub block-answer : List ℕ → ℕ → Result ℕ ClassRefusal
 block-answer bs class = mapped (λ c. getD bs c 0) (λ e. e) (known-answer (length bs) class)
 
--- the law above: c is the lowest class whose block is at least the request
+-- the law of `class-answer`: c is the lowest class whose block is at least the request
 pub record Lowest (bs : List ℕ) (bytes c : ℕ) : Type 0 where
   pub class : c < length bs
   pub holds : bytes ≤ getD bs c 0
   pub lowest : (d : ℕ) → d < length bs → bytes ≤ getD bs d 0 → c ≤ d
 
--- and when there is none
+-- and when each refusal comes
 abbrev pub Classed : List ℕ → ℕ → Result ℕ ClassRefusal → Type 0
 Classed bs bytes (Ok c) = (1 ≤ bytes) × Lowest bs bytes c
 Classed bs bytes (Err ZeroRequest) = bytes ≡ 0

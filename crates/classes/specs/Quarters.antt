@@ -9,5 +9,9 @@ use Rattle.std.specs.Iters.{counting}
 abbrev pub quarter-block : ℕ → ℕ → ℕ
 quarter-block g r = 2 ^ (6 + g) + r * 2 ^ (4 + g)
 
+-- the block of class c
+abbrev pub quarters-block : ℕ → ℕ
+quarters-block c = cond (ltb c 4) (16 * (c + 1)) (quarter-block ((c - 4) / 4) ((c - 4) % 4 + 1))
+
 unfoldable pub quarters : List ℕ
-quarters = map (λ c. cond (ltb c 4) (16 * (c + 1)) (quarter-block ((c - 4) / 4) ((c - 4) % 4 + 1))) (counting 0 60)
+quarters = map quarters-block (counting 0 60)

@@ -12,7 +12,7 @@ use crate::plan::SizeClasses;
 use crate::refusal::ClassRefusal;
 
 #[derive(Clone, Copy)]
-pub struct Quarters {}
+pub struct Quarters;
 
 pub impl SizeClasses for Quarters as QuartersClasses {
     ghost blocks = { λ _. quarters };

@@ -12,7 +12,7 @@ use crate::plan::SizeClasses;
 use crate::refusal::ClassRefusal;
 
 #[derive(Clone, Copy)]
-pub struct Sixteens {}
+pub struct Sixteens;
 
 pub impl SizeClasses for Sixteens as SixteensClasses {
     ghost blocks = { λ _. sixteens };

@@ -4,17 +4,16 @@ use mathlib.Core.Logic.{inl, inr}
 use mathlib.Core.List.{List, [], _∷_, _++_}
 use Prim.Native.Nat.{ℕ, _+_, _<_, _≤_}
 use native.Mathlib.Omega.{arith}
-use borrow.Author.Needs.{needs}
 use lib.Dec.{eqb, ltb}
 use lib.ListN.{length, take, drop, getD}
 use Rattle.std.specs.declared.result.Result.{Result}
 use Rattle.std.specs.declared.result.Result.the-variants.{Ok}
 use Rattle.lines.specs.declared.refusal.LineRefusal.{LineRefusal}
-use Rattle.std.specs.shelf.Lists.{All}
 use Rattle.std.proofs.shelf.Lists.{take-append-drop, drop-more}
 use Rattle.std.proofs.shelf.Tests.{ne-eqb, cond-both, eqb-true, eqb-false, ltb-false}
-use Rattle.lines.specs.Answering.{onto-first, lines-of, input-answer}
-use Rattle.lines.specs.Lines.{Endless, Lines, Cut-into}
+use Rattle.lines.proofs.Digits.{refused-not-read}
+use Rattle.lines.specs.Answering.{input-answer}
+use Rattle.lines.specs.Lines.{onto-first, lines-of, Endless, Lines, Cut-into}
 
 pub cut : (xs ys : List ℕ) → Endless xs → lines-of (xs ++ (10 ∷ ys)) ≡ xs ∷ lines-of ys
 cut [] ys h = refl
@@ -35,13 +34,9 @@ first-line xs i l e h =
 pub short-input : (n : ℕ) → Ok tt ≡ input-answer n → n ≤ 32768
 short-input n e =
     cond-both (ltb 32768 n) _ _ (λ (q : Result (Unit {0}) LineRefusal). q ≡ Ok tt → n ≤ 32768)
-    (λ _ z. absurd (let f : _≡_ {A = ℕ} 0 1 = cc in omega arith))
+    (λ _ z. absurd (refused-not-read _ _ z))
     (λ short _. ltb-false 32768 n short)
     (sym e)
-
-pub empty : (xs : List ℕ) → length xs ≡ 0 → xs ≡ []
-empty [] e = refl
-empty (x ∷ xs) e = absurd (omega arith)
 
 -- the law of lines
 

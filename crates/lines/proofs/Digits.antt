@@ -1,22 +1,22 @@
 -- Digits at the front of a text.
-use mathlib.Core.Path.{_≡_, refl, sym, ap, _∙_}
-use mathlib.Core.Bool.{true, false}
+use mathlib.Core.Path.{_≡_, sym}
+use mathlib.Core.Bool.{true}
 use mathlib.Core.List.{List, [], _∷_}
 use mathlib.Core.Logic.{inl, inr}
-use Prim.Native.Nat.{ℕ, zero, suc, _+_, _*_, _^_, _<_, _≤_}
+use Prim.Native.Nat.{ℕ, zero, suc, _<_, _≤_}
 use native.Mathlib.Nat.{pow-le-pow-right}
 use native.Mathlib.Numerals.{one-add}
 use native.Mathlib.Omega.{arith}
 use lib.Dec.{lit<, leb, ltb, eqb}
-use lib.ListN.{length, take, drop, getD}
-use borrow.Author.Needs.{needs}
+use lib.ListN.{length, take}
 use Rattle.std.specs.Reads.{value, Digits}
 use Rattle.std.specs.Text.{asciiDigit, digitValue}
 use Rattle.std.specs.shelf.Lists.{leading}
-use Rattle.std.proofs.shelf.Digits.{value-lt, digits-more}
+use Rattle.std.proofs.shelf.Digits.{value-lt}
 use Rattle.std.proofs.shelf.Text.{digitValue-digit}
 use Rattle.std.proofs.shelf.Tests.{cases-bool, and-parts, leb-true, cond-both, eqb-false, ltb-false}
-use Rattle.std.specs.declared.result.Result.the-variants.{Ok}
+use Rattle.std.specs.declared.result.Result.the-variants.{Ok, Err}
+use Rattle.lines.specs.declared.refusal.LineRefusal.{LineRefusal}
 use Rattle.lines.specs.Reading.{one-to-nine}
 
 pub small : (c : ℕ) → asciiDigit c ≡ true → digitValue c < 10
@@ -34,12 +34,15 @@ digits-take (x ∷ xs) i h = elim i as (λ n. Digits 10 (take n (x ∷ xs))) [ z
 pub room : (xs : List ℕ) (i : ℕ) → Digits 10 (take i xs) → length (take i xs) ≤ 8 → value 10 (take i xs) < 100000000
 room xs i h k = omega (arith, value-lt 10 (take i xs) h, pow-le-pow-right {n = 10} (lit< tt) k)
 
+pub refused-not-read : {T : Type 0} (e : LineRefusal) (x : T) → Err e ≡ Ok x → ⊥
+refused-not-read e x is = let z : _≡_ {A = ℕ} 0 1 = cc in omega arith
+
 -- what a number of digits from 1 to 9 is
 pub within-nine : (k n : ℕ) → Ok n ≡ one-to-nine k → (n ≡ k) × (1 ≤ n) × (n ≤ 9)
 within-nine k n e =
     cond-both (eqb k 0) _ _ (λ q. q ≡ Ok n → (n ≡ k) × (1 ≤ n) × (n ≤ 9))
-    (λ _ z. absurd (let f : _≡_ {A = ℕ} 0 1 = cc in omega arith))
+    (λ _ z. absurd (refused-not-read _ _ z))
     (λ some. cond-both (ltb 9 k) _ _ (λ q. q ≡ Ok n → (n ≡ k) × (1 ≤ n) × (n ≤ 9))
-    (λ _ z. absurd (let f : _≡_ {A = ℕ} 0 1 = cc in omega arith))
+    (λ _ z. absurd (refused-not-read _ _ z))
     (λ short z. let is : n ≡ k = cc in (is, omega (arith, eqb-false k 0 some), omega (arith, ltb-false 9 k short))))
     (sym e)

@@ -1,13 +1,13 @@
 -- `reads` is the relation `Written`, both ways.
 use mathlib.Core.Path.{_≡_, refl, sym, ap, _∙_}
-use mathlib.Core.Bool.{true, cond}
+use mathlib.Core.Bool.{true}
 use mathlib.Core.List.{List, [], _∷_, _++_}
-use Prim.Native.Nat.{ℕ, _+_, _<_, _≤_}
+use Prim.Native.Nat.{ℕ, _<_}
 use native.Mathlib.Numerals.{one-add}
 use native.Mathlib.Omega.{arith}
 use lib.Dec.{eqb, ltb}
-use lib.ListN.{length, take, drop, length-take}
-use Rattle.std.specs.Reads.{value, Digits}
+use lib.ListN.{length, take, length-take}
+use Rattle.std.specs.Reads.{Digits}
 use Rattle.std.specs.Results.{Cases}
 use Rattle.std.specs.Text.{asciiDigit, digitValue}
 use Rattle.std.specs.declared.result.Result.{Result}
@@ -15,16 +15,16 @@ use Rattle.std.specs.declared.result.Result.the-variants.{Ok, Err}
 use Rattle.std.specs.shelf.Lists.{leading}
 use Rattle.std.proofs.shelf.Lists.{take-append-drop, take-at, drop-at}
 use Rattle.std.proofs.shelf.Numerals.{digit-from-value}
-use Rattle.std.proofs.shelf.Results.{cases-at-ok}
 use Rattle.std.proofs.shelf.Sums.{leading-le-length}
 use Rattle.std.proofs.shelf.Tests.{cond-both, eqb-true, and-from, le-leb, le-ltb, ne-eqb}
-use Rattle.lines.specs.Reading.{Read, onward, one-to-nine, number-at, last, two-numbers, reads-as, reads}
-use Rattle.lines.specs.Writing.{Writes, Spelt, letter, numbers, Written, Written-by}
+use Rattle.lines.specs.Reading.{Read, one-to-nine, number-at, last, two-numbers, reads}
+use Rattle.profile.specs.Passing.{onward}
+use Rattle.lines.specs.Writing.{Writes, Spelt, Written, Written-by}
 use Rattle.lines.specs.declared.call.Call.{Call}
 use Rattle.lines.specs.declared.call.Call.the-variants.{Note}
 use Rattle.lines.specs.declared.refusal.LineRefusal.{LineRefusal}
 use Rattle.lines.specs.declared.refusal.LineRefusal.the-variants.{Unreadable}
-use Rattle.lines.proofs.Digits.{front-digits, within-nine}
+use Rattle.lines.proofs.Digits.{front-digits, within-nine, refused-not-read}
 
 -- what is read keeps Q, and all else is unreadable
 abbrev Reads : {A : Type 0} → (A → Type 0) → Read A → Type 0
@@ -113,7 +113,7 @@ written-reads line (Note b c) h = ap reads (h .1) ∙ rw (two-read b c (h .0) (h
 by-cases : (line : List ℕ) (r : Result Call LineRefusal) → reads line ≡ r → Reads (Written line) r → Written-by line r
 by-cases line (Ok x) e h = (h, λ y w. let z : Ok y ≡ Ok x = sym (written-reads line y w) ∙ e in cc)
 by-cases line (Err f) e h =
-    (h, λ x w. let z : Ok x ≡ Err f = sym (written-reads line x w) ∙ e in let n : _≡_ {A = ℕ} 0 1 = cc in omega arith)
+    (h, λ x w. refused-not-read f x (sym e ∙ written-reads line x w))
 
 pub written-by : (line : List ℕ) → Written-by line (reads line)
 written-by line = by-cases line (reads line) refl (reads-written line)

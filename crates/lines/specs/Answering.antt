@@ -1,19 +1,19 @@
 -- What a whole input is answered with.
-use mathlib.Core.Path.{_≡_}
 use mathlib.Core.Bool.{cond}
 use mathlib.Core.List.{List, [], _∷_, _++_}
 use Prim.Native.Nat.{ℕ, _+_}
-use lib.Dec.{eqb, ltb}
+use lib.Dec.{ltb}
 use lib.ListN.{length}
-use Rattle.std.specs.Results.{mapped, Cases}
+use Rattle.std.specs.Results.{mapped}
 use Rattle.std.specs.declared.result.Result.{Result}
 use Rattle.std.specs.declared.result.Result.the-variants.{Ok, Err}
 use Rattle.classes.specs.Sixteens.{sixteens}
 use Rattle.profile.specs.History.{History, Setting, fresh}
 use Rattle.profile.specs.Noting.{note-answer, after-note}
 use Rattle.profile.specs.Stands.{setting}
+use Rattle.lines.specs.Lines.{lines-of}
 use Rattle.lines.specs.Reading.{reads}
-use Rattle.lines.specs.Refusals.{line-number}
+use Rattle.lines.specs.Refusals.{line-refusal-number}
 use Rattle.lines.specs.Showing.{answer-line, refusal-line}
 use Rattle.lines.specs.declared.call.Call.{Call}
 use Rattle.lines.specs.declared.call.Call.the-variants.{Note}
@@ -21,16 +21,6 @@ use Rattle.lines.specs.declared.call.Answer.{Answer}
 use Rattle.lines.specs.declared.call.Answer.the-variants.{Noted}
 use Rattle.lines.specs.declared.refusal.LineRefusal.{LineRefusal}
 use Rattle.lines.specs.declared.refusal.LineRefusal.the-variants.{Profile, InputTooLong}
-
--- b before the first line
-abbrev pub onto-first : ℕ → List (List ℕ) → List (List ℕ)
-onto-first b [] = (b ∷ []) ∷ []
-onto-first b (l ∷ ls) = (b ∷ l) ∷ ls
-
--- a line ends at byte 10, or at the end of the text if it has a byte
-abbrev pub lines-of : List ℕ → List (List ℕ)
-lines-of [] = []
-lines-of (b ∷ bs) = cond (eqb b 10) ([] ∷ lines-of bs) (onto-first b (lines-of bs))
 
 -- what a line that was read so answers, and the history that it leaves
 abbrev pub answered : Setting → History → Result Call LineRefusal → Result Answer LineRefusal
@@ -44,7 +34,7 @@ after-line s h (Err e) = h
 -- the text of an answer to the line at a place
 abbrev pub reply-line : ℕ → Result Answer LineRefusal → List ℕ
 reply-line place (Ok a) = answer-line a
-reply-line place (Err e) = refusal-line place (line-number e)
+reply-line place (Err e) = refusal-line place (line-refusal-number e)
 
 -- the lines from a place on, at a history
 abbrev pub replies : Setting → History → ℕ → List (List ℕ) → List ℕ
@@ -61,4 +51,4 @@ run-of input = replies (setting sixteens) fresh 1 (lines-of input)
 
 -- the whole output
 abbrev pub transcript-of : List ℕ → List ℕ
-transcript-of input = elim (input-answer (length input)) [ Ok _ ↦ run-of input | Err e ↦ refusal-line 0 (line-number e) ]
+transcript-of input = elim (input-answer (length input)) [ Ok _ ↦ run-of input | Err e ↦ refusal-line 0 (line-refusal-number e) ]

@@ -1,10 +1,22 @@
--- The law above the cutting of a text into lines.
+-- How a text is cut into lines, and the law of it.
 use mathlib.Core.Path.{_≡_}
+use mathlib.Core.Bool.{cond}
 use mathlib.Core.List.{List, [], _∷_, _++_}
 use mathlib.Core.Logic.{_⊎_}
 use Prim.Native.Nat.{ℕ, _≤_}
+use lib.Dec.{eqb}
 use lib.ListN.{length}
 use Rattle.std.specs.shelf.Lists.{All}
+
+-- b before the first line
+abbrev pub onto-first : ℕ → List (List ℕ) → List (List ℕ)
+onto-first b [] = (b ∷ []) ∷ []
+onto-first b (l ∷ ls) = (b ∷ l) ∷ ls
+
+-- a line ends at byte 10, or at the end of the text if it has a byte
+abbrev pub lines-of : List ℕ → List (List ℕ)
+lines-of [] = []
+lines-of (b ∷ bs) = cond (eqb b 10) ([] ∷ lines-of bs) (onto-first b (lines-of bs))
 
 -- no line ends in xs
 abbrev pub Endless : List ℕ → Type 0

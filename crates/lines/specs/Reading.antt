@@ -9,7 +9,7 @@ use Rattle.std.specs.Text.{asciiDigit}
 use Rattle.std.specs.shelf.Lists.{leading}
 use Rattle.std.specs.declared.result.Result.{Result}
 use Rattle.std.specs.declared.result.Result.the-variants.{Ok, Err}
-use Rattle.profile.specs.Passing.{passing}
+use Rattle.profile.specs.Passing.{onward}
 use Rattle.lines.specs.declared.call.Call.{Call}
 use Rattle.lines.specs.declared.call.Call.the-variants.{Note}
 use Rattle.lines.specs.declared.refusal.LineRefusal.{LineRefusal}
@@ -18,9 +18,6 @@ use Rattle.lines.specs.declared.refusal.LineRefusal.the-variants.{Unreadable}
 -- what is read, or a line that is no call
 abbrev pub Read : Type 0 → Type 0
 Read A = Result A LineRefusal
-
-abbrev pub onward : {A B : Type 0} → Read A → (A → Read B) → Read B
-onward r next = passing (λ e. e) r next
 
 -- a number of digits, if it is from 1 to 9
 abbrev pub one-to-nine : ℕ → Read ℕ

@@ -4,7 +4,7 @@ use Rattle.profile.specs.Refusals.{refusal-number}
 use Rattle.lines.specs.declared.refusal.LineRefusal.{LineRefusal}
 use Rattle.lines.specs.declared.refusal.LineRefusal.the-variants.{Profile, Unreadable, InputTooLong}
 
-abbrev pub line-number : LineRefusal → ℕ
-line-number (Profile e) = refusal-number e
-line-number Unreadable = 51
-line-number InputTooLong = 52
+abbrev pub line-refusal-number : LineRefusal → ℕ
+line-refusal-number (Profile e) = refusal-number e
+line-refusal-number Unreadable = 51
+line-refusal-number InputTooLong = 52

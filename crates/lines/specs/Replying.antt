@@ -11,7 +11,7 @@ use Rattle.std.specs.declared.result.Result.the-variants.{Ok, Err}
 use Rattle.std.specs.declared.result.Result.{Result}
 use Rattle.profile.specs.declared.profile.Profile.{Profile}
 use Rattle.profile.specs.History.{History}
-use Rattle.profile.specs.Stands.{setting, Stands}
+use Rattle.profile.specs.Stands.{setting-of, Stands}
 use Rattle.lines.specs.Answering.{answered, after-line, reply-line, input-answer, run-of}
 use Rattle.lines.specs.Reading.{reads}
 use Rattle.lines.specs.declared.error.TextError.{TextError}
@@ -19,9 +19,9 @@ use Rattle.lines.specs.declared.error.TextError.the-variants.{Refused, NoMemor
 
 pub record Replied {P : Type 0} (blocks : P → List ℕ) (p q : Profile P) (place : ℕ) (line out written : List ℕ) (r : Result (Unit {0}) TextError) : Type 0 where
   pub plan : q .plan ≡ p .plan
-  pub stands : (h : History) → Stands (setting (blocks (p .plan))) h p → Stands (setting (blocks (p .plan))) (after-line (setting (blocks (p .plan))) h (reads line)) q
-  pub text : (h : History) → Stands (setting (blocks (p .plan))) h p →
-      Cases r (λ _. written ≡ out ++ reply-line place (answered (setting (blocks (p .plan))) h (reads line))) (λ e. e ≡ NoMemory)
+  pub stands : (h : History) → Stands (setting-of blocks p) h p → Stands (setting-of blocks p) (after-line (setting-of blocks p) h (reads line)) q
+  pub text : (h : History) → Stands (setting-of blocks p) h p →
+      Cases r (λ _. written ≡ out ++ reply-line place (answered (setting-of blocks p) h (reads line))) (λ e. e ≡ NoMemory)
 
 -- an input that was run, with its text, and why one was not
 pub record Ran (input : List ℕ) (out : String Global) : Type 0 where

@@ -1,4 +1,4 @@
--- The law above reading: which line writes which call.
+-- Which line writes which call: the law of reading.
 use mathlib.Core.Path.{_≡_}
 use mathlib.Core.List.{List, [], _∷_, _++_}
 use Prim.Native.Nat.{ℕ, _≤_}

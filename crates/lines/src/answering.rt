@@ -1,6 +1,8 @@
 // Answers a line: it is read, and its call is put to the profile.
 ghost use mathlib.Core.Path.{_≡_};
+ghost use mathlib.Core.Bool.{false};
 ghost use Rattle.std.specs.Of.String.{string-bytes};
+ghost use Rattle.std.specs.Results.{isOk};
 ghost use Rattle.profile.specs.Stands.{Told};
 ghost use Rattle.lines.specs.Answering.{answered, after-line};
 ghost use Rattle.lines.specs.Reading.{reads};
@@ -13,12 +15,13 @@ use crate::refusal::LineRefusal;
 use crate::refusal::LineRefusalFromProfile;
 use crate::showing::refuse;
 use crate::showing::show;
-use classes::plan::SizeClasses;
-use profile::profile::Profile;
+use classes::SizeClasses;
+use profile::Profile;
 
 // What the line's call answers; a refusal of the reader, of the profile or of its plan comes out as it is.
 pub fn answer<P: SizeClasses>(profile: &mut Profile<P>, line: &[u8]) -> Result<Answer, LineRefusal>
-    ensures { λ r. ⌜ Told blocks (now (profile .entry)) (now (profile .exit)) (λ s h. after-line s h (reads (now (line .entry)))) (λ s h. answered s h (reads (now (line .entry)))) r ⌝ }
+    ensures told { λ r. ⌜ Told blocks (now (profile .entry)) (now (profile .exit)) (λ s h. after-line s h (reads (now (line .entry)))) (λ s h. answered s h (reads (now (line .entry)))) r ⌝ }
+    ensures refused { λ r. ⌜ (isOk r ≡ false → now (profile .exit) ≡ now (profile .entry)) ⌝ }
 {
     let call = read(line)?;
     match call {
@@ -30,7 +33,7 @@ pub fn answer<P: SizeClasses>(profile: &mut Profile<P>, line: &[u8]) -> Result<A
 }
 
 // Writes what the line at a place is answered with.
-pub fn reply<P: SizeClasses>(
+pub(crate) fn reply<P: SizeClasses>(
     profile: &mut Profile<P>,
     out: &mut String,
     place: u32,

@@ -1,5 +1,7 @@
 // Why a text could not be made: a refusal, or want of memory.
 ghost use mathlib.Core.Path.{_≡_};
+ghost use Rattle.std.specs.declared.option.Option.the-variants.{Some};
+ghost use Rattle.lines.specs.Showing.{error-text};
 ghost use Rattle.lines.specs.declared.error.TextError.the-variants.{Refused, NoMemory};
 use crate::refusal::LineRefusal;
 use crate::refusal::LineRefusalDebug;
@@ -29,13 +31,15 @@ pub impl From<fmt::Error> for TextError as TextErrorFromFmt {
 }
 
 pub impl fmt::Display for TextError as TextErrorDisplay {
+    ghost shown = { λ x. Some (error-text x) };
+
     fn fmt<W: fmt::Write>(&self, f: &mut fmt::Formatter<W>) -> fmt::Result {
         match *self {
-            TextError::Refused(refusal) => {
-                let number = refusal.number();
+            Self::Refused(inner) => {
+                let number = inner.number();
                 write!(f, "refused {number}")
             }
-            TextError::NoMemory => write!(f, "out of memory"),
+            Self::NoMemory => write!(f, "out of memory"),
         }
     }
 }

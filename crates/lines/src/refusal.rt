@@ -1,11 +1,11 @@
 // Why the line program refuses, and the number of each case.
 ghost use mathlib.Core.Path.{_≡_};
-ghost use Rattle.lines.specs.Refusals.{line-number};
+ghost use Rattle.lines.specs.Refusals.{line-refusal-number};
 ghost use Rattle.lines.specs.declared.refusal.LineRefusal.the-variants.{Profile};
-use profile::refusal::Refusal;
-use profile::refusal::RefusalDebug;
-use profile::refusal::RefusalEq;
-use profile::refusal::RefusalPartialEq;
+use profile::Refusal;
+use profile::RefusalDebug;
+use profile::RefusalEq;
+use profile::RefusalPartialEq;
 
 #[derive(Clone, Copy, Debug, PartialEq, Eq)]
 pub enum LineRefusal {
@@ -19,7 +19,7 @@ pub enum LineRefusal {
 
 impl LineRefusal {
     pub fn number(self) -> u32
-        ensures { λ r. ⌜ r ≡ line-number self ⌝ }
+        ensures { λ r. ⌜ r ≡ line-refusal-number self ⌝ }
     {
         match self {
             LineRefusal::Profile(inner) => inner.number(),

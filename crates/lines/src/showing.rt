@@ -4,7 +4,7 @@ ghost use mathlib.Core.List.{_++_};
 ghost use Rattle.std.specs.Of.String.{string-bytes};
 ghost use Rattle.std.specs.Results.{Cases};
 ghost use Rattle.std.specs.declared.option.Option.the-variants.{Some};
-ghost use Rattle.lines.specs.Refusals.{line-number};
+ghost use Rattle.lines.specs.Refusals.{line-refusal-number};
 ghost use Rattle.lines.specs.Showing.{answer-line, refusal-line};
 ghost use Rattle.lines.specs.declared.error.TextError.the-variants.{NoMemory};
 use crate::call::Answer;
@@ -25,15 +25,15 @@ pub impl fmt::Display for Answer as AnswerDisplay {
     }
 }
 
-pub fn show(out: &mut String, answer: Answer) -> Result<(), TextError>
+pub(crate) fn show(out: &mut String, answer: Answer) -> Result<(), TextError>
     ensures { λ r. ⌜ Cases r (λ _. string-bytes (now (out .exit)) ≡ string-bytes (now (out .entry)) ++ answer-line answer) (λ e. e ≡ NoMemory) ⌝ }
 {
     write!(out, "{answer}")?;
     Ok(())
 }
 
-pub fn refuse(out: &mut String, place: u32, refusal: LineRefusal) -> Result<(), TextError>
-    ensures { λ r. ⌜ Cases r (λ _. string-bytes (now (out .exit)) ≡ string-bytes (now (out .entry)) ++ refusal-line place (line-number refusal)) (λ e. e ≡ NoMemory) ⌝ }
+pub(crate) fn refuse(out: &mut String, place: u32, refusal: LineRefusal) -> Result<(), TextError>
+    ensures { λ r. ⌜ Cases r (λ _. string-bytes (now (out .exit)) ≡ string-bytes (now (out .entry)) ++ refusal-line place (line-refusal-number refusal)) (λ e. e ≡ NoMemory) ⌝ }
 {
     let number = refusal.number();
     writeln!(out, "! {place} {number}")?;

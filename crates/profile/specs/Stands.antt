@@ -1,22 +1,20 @@
 -- When a profile is what a history says, and what one call does to it.
 use mathlib.Core.Path.{_≡_}
-use mathlib.Core.Bool.{Bool}
 use mathlib.Core.List.{List, [], _∷_, _++_, map}
 use Prim.Native.Nat.{ℕ, _+_, _≤_}
 use lib.ListN.{length, take}
-use Rattle.std.specs.Orderings.{Decides}
 use Rattle.std.specs.Results.{Cases}
 use Rattle.std.specs.shelf.Lists.{All}
 use Rattle.std.specs.declared.result.Result.{Result}
-use Rattle.std.specs.declared.result.Result.the-variants.{Ok, Err}
-use Rattle.classes.specs.Plan.{largest, class-of}
+use Rattle.std.specs.declared.result.Result.the-variants.{Ok}
+use Rattle.classes.specs.Plan.{class-of}
 use Rattle.profile.specs.declared.pending.Record.{Record}
 use Rattle.profile.specs.declared.pending.Pending.{Pending}
 use Rattle.profile.specs.declared.profile.Profile.{Profile}
 use Rattle.profile.specs.declared.refusal.Refusal.{Refusal}
 use Rattle.profile.specs.History.{Note, History, Setting}
-use Rattle.profile.specs.Noting.{weight, room-answer}
-use Rattle.profile.specs.Passing.{passing}
+use Rattle.profile.specs.Noting.{weight, room-answer, Sound}
+use Rattle.profile.specs.Passing.{onward}
 
 -- the setting of a profile over a plan with these blocks
 abbrev pub setting : List ℕ → Setting
@@ -29,13 +27,6 @@ held p = take (p .len) (p .records)
 -- the record that a note is kept as
 abbrev pub kept-as : List ℕ → Note → Record
 kept-as bs n = record { class = class-of bs (n .bytes); count = n .count }
-
--- a note that can have been taken
-pub record Sound (bs : List ℕ) (n : Note) : Type 0 where
-  pub some : 1 ≤ n .bytes
-  pub fits : n .bytes ≤ largest bs
-  pub made : 1 ≤ n .count
-  pub small : n .count ≤ 65535
 
 -- the table has these notes, in their order, each by its class and count, and there was room for them
 pub record Kept (s : Setting) (ns : List Note) (p : Pending) : Type 0 where
@@ -50,16 +41,20 @@ pub record Kept (s : Setting) (ns : List Note) (p : Pending) : Type 0 where
 pub record Stands {P : Type 0} (s : Setting) (h : History) (p : Profile P) : Type 0 where
   pub pending : Kept s (h .pending) (p .pending)
 
+-- the setting of a profile, where `blocks` is what its plan means
+abbrev pub setting-of : {P : Type 0} → (P → List ℕ) → Profile P → Setting
+setting-of blocks p = setting (blocks (p .plan))
+
 -- what one call does: it keeps the plan, and wherever the profile stood at a history h, r is what h defines and
 -- the profile stands at the history that the call leaves
 pub record Told {P A : Type 0} (blocks : P → List ℕ) (p q : Profile P) (after : Setting → History → History) (answer : Setting → History → A) (r : A) : Type 0 where
   pub plan : q .plan ≡ p .plan
-  pub stands : (h : History) → Stands (setting (blocks (p .plan))) h p → Stands (setting (blocks (p .plan))) (after (setting (blocks (p .plan))) h) q
-  pub answers : (h : History) → Stands (setting (blocks (p .plan))) h p → r ≡ answer (setting (blocks (p .plan))) h
+  pub stands : (h : History) → Stands (setting-of blocks p) h p → Stands (setting-of blocks p) (after (setting-of blocks p) h) q
+  pub answers : (h : History) → Stands (setting-of blocks p) h p → r ≡ answer (setting-of blocks p) h
 
--- wherever the profile stood at a history h, the test is true exactly when h has it so
-abbrev pub Told-when : {P : Type 0} → (P → List ℕ) → Profile P → (Setting → History → Type 0) → Bool → Type 0
-Told-when blocks p when test = (h : History) → Stands (setting (blocks (p .plan))) h p → Decides test (when (setting (blocks (p .plan))) h)
+-- what holds of every history at which the profile stands
+abbrev pub Wherever : {P : Type 0} → (P → List ℕ) → Profile P → (Setting → History → Type 0) → Type 0
+Wherever blocks p law = (h : History) → Stands (setting-of blocks p) h p → law (setting-of blocks p) h
 
 -- the steps of a note on the table
 
@@ -74,5 +69,5 @@ pub record Pushed (p : Pending) (x : Record) (sum : ℕ) (q : Pending) : Type 0 
   pub total : q .total ≡ sum
 
 pub record Added (records total : ℕ) (p : Pending) (x : Record) (r : Result ℕ Refusal) (q : Pending) : Type 0 where
-  pub answer : r ≡ passing (λ e. e) (room-answer records total (p .len) (p .total) (x .count)) (λ _. Ok (p .len + 1))
+  pub answer : r ≡ onward (room-answer records total (p .len) (p .total) (x .count)) (λ _. Ok (p .len + 1))
   pub after : Cases r (λ _. Pushed p x (p .total + x .count) q) (λ _. q ≡ p)

@@ -1,6 +1,13 @@
 // The profile: requests are noted, each as a record of its class and its count.
 mod calls;
 mod noting;
-pub mod pending;
-pub mod profile;
-pub mod refusal;
+mod pending;
+mod profile;
+mod refusal;
+
+pub use profile::Profile;
+pub use refusal::Refusal;
+pub use refusal::RefusalDebug;
+pub use refusal::RefusalEq;
+pub use refusal::RefusalFromClass;
+pub use refusal::RefusalPartialEq;

@@ -7,7 +7,7 @@ use crate::pending::Pending;
 use crate::pending::Record;
 use crate::refusal::Refusal;
 use crate::refusal::RefusalFromClass;
-use classes::plan::SizeClasses;
+use classes::SizeClasses;
 
 // A count from 1 to 65,535.
 fn counted(count: u32) -> Result<u16, Refusal>
@@ -42,11 +42,11 @@ impl Pending {
         }
     }
 
-    // Whether there is room for one record more of this count, among at most so many records of at most this total.
-    fn admits(&self, count: u16, records: u32, total: u32) -> Result<(), Refusal>
+    // Refuses where there is no room for one record more of this count, among at most so many records of at most this total.
+    fn check_room(&self, count: u16, records: u32, total: u32) -> Result<(), Refusal>
         ensures { λ r. ⌜ r ≡ room-answer records total (now (self .entry) .len) (now (self .entry) .total) count ⌝ }
     {
-        if self.len as u64 >= u64::from(records) {
+        if self.len >= records {
             return Err(Refusal::RecordsFull);
         }
         if u64::from(self.total) + u64::from(count) > u64::from(total) {
@@ -60,7 +60,7 @@ impl Pending {
         requires { ⌜ now self .len < 512 ⌝ }
         ensures { λ _. ⌜ Pushed (now (self .entry)) item (now (self .entry) .total) (now (self .exit)) ⌝ }
     {
-        self.records[self.len] = item;
+        self.records[self.len as usize] = item;
         self.len += 1;
     }
 
@@ -70,9 +70,9 @@ impl Pending {
         requires light { ⌜ total ≤ 33554432 ⌝ }
         ensures { λ r. ⌜ Added records total (now (self .entry)) item r (now (self .exit)) ⌝ }
     {
-        self.admits(item.count, records, total)?;
+        self.check_room(item.count, records, total)?;
         self.push(item);
         self.total += u32::from(item.count);
-        Ok(self.len as u32)
+        Ok(self.len)
     }
 }

@@ -3,15 +3,15 @@ ghost use Prim.Native.Nat.{_≤_};
 
 // One noted record: so many requests of one size class.
 #[derive(Clone, Copy)]
-pub struct Record {
+pub(crate) struct Record {
     pub(crate) class: u8,
     pub(crate) count: u16,
 }
 
-#[derive(Clone, Copy)]
-pub struct Pending {
+#[derive(Drop)]
+pub(crate) struct Pending {
     pub(crate) records: [Record; 512],
-    pub(crate) len: usize,
+    pub(crate) len: u32,
     // the sum of the counts
     pub(crate) total: u32,
     ghost short: { len ≤ 512 },

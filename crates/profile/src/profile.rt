@@ -1,6 +1,6 @@
 // The profile of an allocator: its plan, and what is noted and not yet closed.
 use crate::pending::Pending;
-use classes::plan::SizeClasses;
+use classes::SizeClasses;
 
 #[derive(Drop)]
 pub struct Profile<P: SizeClasses> {

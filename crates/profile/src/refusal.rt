@@ -2,10 +2,10 @@
 ghost use mathlib.Core.Path.{_≡_};
 ghost use Rattle.profile.specs.Refusals.{refusal-number};
 ghost use Rattle.profile.specs.declared.refusal.Refusal.the-variants.{Class};
-use classes::refusal::ClassRefusal;
-use classes::refusal::ClassRefusalDebug;
-use classes::refusal::ClassRefusalEq;
-use classes::refusal::ClassRefusalPartialEq;
+use classes::ClassRefusal;
+use classes::ClassRefusalDebug;
+use classes::ClassRefusalEq;
+use classes::ClassRefusalPartialEq;
 
 #[derive(Clone, Copy, Debug, PartialEq, Eq)]
 pub enum Refusal {

@@ -1,8 +1,8 @@
 // Answers the lines of the standard input on the standard output.
-use lines::error::TextErrorDebug;
-use lines::error::TextErrorDisplay;
-use lines::error::TextErrorError;
-use lines::transcript::transcript;
+use lines::TextErrorDebug;
+use lines::TextErrorDisplay;
+use lines::TextErrorError;
+use lines::transcript;
 use std::error::AnyError;
 use std::io::Read;
 use std::io::Write;
@@ -10,7 +10,7 @@ use std::io::Write;
 // One byte more than is run, so that a longer input is seen to be longer.
 const KEPT: u64 = 32_769;
 
-fn main(rt: LibcRuntime) -> Result<(), AnyError> {
+fn run(rt: &LibcRuntime) -> Result<(), AnyError> {
     let heap = rt.alloc();
     let mut input = Vec::new(heap);
     rt.stdin().take(KEPT).read_to_end(&mut input)?;
@@ -19,10 +19,14 @@ fn main(rt: LibcRuntime) -> Result<(), AnyError> {
     Ok(())
 }
 
+fn main(rt: LibcRuntime) -> Result<(), AnyError> {
+    rt.report(run(&rt))
+}
+
 #[cfg(test)]
 mod tests {
-    use lines::error::TextErrorDebug;
-    use lines::transcript::transcript;
+    use lines::TextErrorDebug;
+    use lines::transcript;
     use std::alloc::Global;
     use std::test::*;
 

@@ -1,10 +1,10 @@
 // Prints worked cases: what the library says of some requests, and what a plain search over the blocks says.
-use classes::plan::SizeClasses;
-use classes::quarters::Quarters;
-use classes::quarters::QuartersClasses;
-use classes::refusal::ClassRefusal;
-use classes::sixteens::Sixteens;
-use classes::sixteens::SixteensClasses;
+use classes::ClassRefusal;
+use classes::Quarters;
+use classes::QuartersClasses;
+use classes::Sixteens;
+use classes::SixteensClasses;
+use classes::SizeClasses;
 use std::fmt;
 use std::io;
 
@@ -97,11 +97,11 @@ fn print_request<P: SizeClasses>(
     bytes: u32,
     count: u32,
 ) -> io::Result<()> {
-    let said_first = say(plan, plan.class_of(bytes), count);
+    let by_library = say(plan, plan.class_of(bytes), count);
     let by_search = say(plan, search(plan, bytes), count);
     println!(
         rt,
-        "{name}: {count} x {bytes} bytes: {said_first}; by search {by_search}"
+        "{name}: {count} x {bytes} bytes: {by_library}; by search {by_search}"
     )
 }
 
@@ -111,8 +111,13 @@ fn print_class<P: SizeClasses>(
     name: &str,
     class: u32,
 ) -> io::Result<()> {
-    let said_of = say(plan, Ok(class), 1);
-    println!(rt, "{name}: class {class}: {said_of}")
+    match plan.block_size(class) {
+        Ok(block) => println!(rt, "{name}: class {class}: block {block}"),
+        Err(refusal) => {
+            let number = refusal.number();
+            println!(rt, "{name}: class {class}: refused {number}")
+        }
+    }
 }
 
 // What the counted requests consume together.
@@ -130,10 +135,13 @@ fn total<P: SizeClasses>(plan: &P, by_search: bool) -> Result<u64, ClassRefusal>
 }
 
 fn print_total<P: SizeClasses>(rt: &LibcRuntime, plan: &P, name: &str) -> io::Result<()> {
-    if let (Ok(sum), Ok(by_search)) = (total(plan, false), total(plan, true)) {
-        println!(rt, "{name}: consumed {sum} in all; by search {by_search}")?;
+    match (total(plan, false), total(plan, true)) {
+        (Ok(sum), Ok(by_search)) => println!(
+            rt,
+            "{name}: consumed {sum} in all; by search {by_search}"
+        ),
+        _ => println!(rt, "{name}: a request was refused"),
     }
-    Ok(())
 }
 
 fn print_plan<P: SizeClasses>(rt: &LibcRuntime, plan: &P, name: &str) -> io::Result<()> {
@@ -151,51 +159,66 @@ fn print_plan<P: SizeClasses>(rt: &LibcRuntime, plan: &P, name: &str) -> io::Res
 }
 
 fn main(rt: LibcRuntime) -> io::Result<()> {
-    print_plan(&rt, &Sixteens {}, "sixteens")?;
-    print_plan(&rt, &Quarters {}, "quarters")
+    print_plan(&rt, &Sixteens, "sixteens")?;
+    print_plan(&rt, &Quarters, "quarters")
 }
 
 #[cfg(test)]
 mod tests {
     use super::*;
-    use classes::refusal::ClassRefusalDebug;
-    use classes::refusal::ClassRefusalPartialEq;
+    use classes::ClassRefusalDebug;
+    use classes::ClassRefusalPartialEq;
     use std::test::*;
 
-    // plan, request, class and block, by hand
-    const CLASSED: [(bool, u32, u32, u32); 10] = [
-        (false, 33, 2, 48),
-        (true, 33, 2, 48),
-        (true, 64, 3, 64),
-        (true, 65, 4, 80),
-        (true, 129, 8, 160),
-        (true, 1_048_576, 59, 1_048_576),
-        (false, 4_096, 255, 4_096),
-        (false, 1, 0, 16),
-        (true, 1, 0, 16),
-        (false, 129, 8, 144),
+    // request, class and block, by hand
+    const IN_SIXTEENS: [(u32, u32, u32); 4] = [
+        (1, 0, 16),
+        (33, 2, 48),
+        (129, 8, 144),
+        (4_096, 255, 4_096),
+    ];
+
+    const IN_QUARTERS: [(u32, u32, u32); 6] = [
+        (1, 0, 16),
+        (33, 2, 48),
+        (64, 3, 64),
+        (65, 4, 80),
+        (129, 8, 160),
+        (1_048_576, 59, 1_048_576),
     ];
 
     fn same<P: SizeClasses>(plan: &P, bytes: u32) -> Result<(), Fail> {
         check_eq(plan.class_of(bytes), search(plan, bytes))
     }
 
-    fn is<P: SizeClasses>(plan: &P, bytes: u32, class: u32, block: u32) -> Result<(), Fail> {
-        check_eq(plan.class_of(bytes), Ok(class))?;
-        check_eq(plan.block_size(class), Ok(block))?;
-        same(plan, bytes)
+    // the class, the block, and what two such requests consume
+    fn are<P: SizeClasses>(plan: &P, cases: &[(u32, u32, u32)]) -> Result<(), Fail> {
+        for (bytes, class, block) in cases {
+            match serve(plan, plan.class_of(*bytes), 2) {
+                Ok(found) => {
+                    check_eq(found.class, *class)?;
+                    check_eq(found.block, *block)?;
+                    check_eq(found.consumed, 2 * u64::from(*block))?;
+                }
+                Err(_) => check(false)?,
+            }
+            same(plan, *bytes)?;
+        }
+        Ok(())
     }
 
     #[test]
     fn worked_cases() -> Result<(), Fail> {
-        for (quarters, bytes, class, block) in CLASSED.iter() {
-            if *quarters {
-                is(&Quarters {}, *bytes, *class, *block)?;
-            } else {
-                is(&Sixteens {}, *bytes, *class, *block)?;
-            }
-        }
-        Ok(())
+        are(&Sixteens, &IN_SIXTEENS)?;
+        are(&Quarters, &IN_QUARTERS)
+    }
+
+    #[test]
+    fn totals() -> Result<(), Fail> {
+        check_eq(total(&Sixteens, false), Ok(928))?;
+        check_eq(total(&Sixteens, true), Ok(928))?;
+        check_eq(total(&Quarters, false), Ok(976))?;
+        check_eq(total(&Quarters, true), Ok(976))
     }
 
     fn refused(found: Result<u32, ClassRefusal>, number: u32) -> Result<(), Fail> {
@@ -207,20 +230,20 @@ mod tests {
 
     #[test]
     fn refusals() -> Result<(), Fail> {
-        refused(Sixteens {}.class_of(0), 11)?;
-        refused(Quarters {}.class_of(0), 11)?;
-        refused(Sixteens {}.class_of(4_097), 12)?;
-        refused(Quarters {}.class_of(1_048_577), 12)?;
-        refused(Quarters {}.class_of(u32::MAX), 12)?;
-        refused(Sixteens {}.block_size(256), 13)?;
-        refused(Quarters {}.block_size(60), 13)?;
-        refused(Quarters {}.block_size(u32::MAX), 13)
+        refused(Sixteens.class_of(0), 11)?;
+        refused(Quarters.class_of(0), 11)?;
+        refused(Sixteens.class_of(4_097), 12)?;
+        refused(Quarters.class_of(1_048_577), 12)?;
+        refused(Quarters.class_of(u32::MAX), 12)?;
+        refused(Sixteens.block_size(256), 13)?;
+        refused(Quarters.block_size(60), 13)?;
+        refused(Quarters.block_size(u32::MAX), 13)
     }
 
     #[test]
     fn every_request_in_sixteens() -> Result<(), Fail> {
         for bytes in 1..=4_096 {
-            same(&Sixteens {}, bytes)?;
+            same(&Sixteens, bytes)?;
         }
         Ok(())
     }
@@ -228,11 +251,11 @@ mod tests {
     #[test]
     fn every_edge_in_quarters() -> Result<(), Fail> {
         for class in 0..60 {
-            match (Quarters {}).block_size(class) {
+            match Quarters.block_size(class) {
                 Ok(block) => {
-                    same(&Quarters {}, block)?;
-                    same(&Quarters {}, block.saturating_add(1))?;
-                    same(&Quarters {}, block.saturating_sub(1))?;
+                    same(&Quarters, block)?;
+                    same(&Quarters, block.saturating_add(1))?;
+                    same(&Quarters, block.saturating_sub(1))?;
                 }
                 Err(_) => check(false)?,
             }

@@ -1,4 +1,3 @@
-use native.Mathlib.Omega.{arith}
 use Rattle.classes.proofs.QuartersBlocks.{quarters-low-class}
 use Rattle.classes.proofs.quarters.low_class.Needs as need
 

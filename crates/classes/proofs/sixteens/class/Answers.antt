@@ -1,4 +1,3 @@
-use native.Mathlib.Omega.{arith}
 use Rattle.classes.proofs.SixteensBlocks.{sixteens-class}
 use Rattle.classes.proofs.sixteens.class.Needs as need
 

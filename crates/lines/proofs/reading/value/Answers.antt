@@ -1,9 +1,6 @@
-use mathlib.Core.Path.{_≡_, sym, ap}
-use Prim.Native.Nat.{_+_, _<_, _≤_}
+use mathlib.Core.Path.{ap}
 use native.Mathlib.Omega.{arith}
-use lib.ListN.{length, take, getD, length-take}
-use borrow.Author.Needs.{needs}
-use Rattle.std.specs.Text.{In, digitValue}
+use lib.ListN.{length-take}
 use Rattle.std.proofs.shelf.Digits.{value-more}
 use Rattle.std.proofs.shelf.Numerals.{digit-at}
 use Rattle.std.specs.Reads.{value}

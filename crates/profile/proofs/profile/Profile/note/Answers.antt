@@ -1,4 +1,4 @@
-use Rattle.profile.proofs.Notes.{told, told-when, unchanged}
+use Rattle.profile.proofs.Notes.{told, unchanged, wherever}
 use Rattle.profile.proofs.profile.Profile.note.Needs as need
 
 pub returns : need.returns
@@ -9,6 +9,6 @@ returns g c =
     let t = told bs p (c .args .bytes) (c .args .count) (c .in-Continue-item .item) is (c .add .result) (c .add .last .self) (c .add .ensures) in
     record {
       told = t;
-      taken = told-when bs p _ (c .args .bytes) (c .args .count) (c .add .result) t;
+      why = wherever bs p _ (c .args .bytes) (c .args .count) (c .add .result) t;
       refused = unchanged bs p (c .args .bytes) (c .args .count) (c .in-Continue-item .item) is (c .add .result) (c .add .last .self) (c .add .ensures);
     }

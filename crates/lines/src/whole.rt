@@ -5,8 +5,8 @@ ghost use Prim.Native.Nat.{_<_, _≤_};
 ghost use lib.ListN.{length};
 ghost use Rattle.std.specs.Of.String.{string-bytes};
 ghost use Rattle.std.specs.Results.{Cases};
-ghost use Rattle.lines.specs.Answering.{lines-of, input-answer, transcript-of};
-ghost use Rattle.lines.specs.Lines.{Cut-into};
+ghost use Rattle.lines.specs.Answering.{input-answer, transcript-of};
+ghost use Rattle.lines.specs.Lines.{lines-of, Cut-into};
 ghost use Rattle.lines.specs.Replying.{Ran, Stopped};
 ghost use Rattle.lines.specs.declared.error.TextError.the-variants.{NoMemory};
 use crate::answering::reply;
@@ -14,9 +14,9 @@ use crate::error::TextError;
 use crate::error::TextErrorFromRefusal;
 use crate::refusal::LineRefusal;
 use crate::showing::refuse;
-use classes::sixteens::Sixteens;
-use classes::sixteens::SixteensClasses;
-use profile::profile::Profile;
+use classes::Sixteens;
+use classes::SixteensClasses;
+use profile::Profile;
 use std::alloc::Global;
 
 // The first line, without its end, and what follows it.
@@ -49,7 +49,7 @@ fn run(heap: Global, input: &[u8]) -> Result<String, TextError>
 {
     within(input)?;
     let mut out = String::new(heap);
-    let mut profile = Profile::new(Sixteens {});
+    let mut profile = Profile::new(Sixteens);
     let mut place = 1;
     let mut rest = input;
     while !rest.is_empty() {

@@ -1,12 +1,11 @@
 use native.Mathlib.Omega.{arith}
-use borrow.Author.Needs.{needs}
 use mathlib.Core.Path.{_≡_}
 use native.Mathlib.Nat.{sub-zero}
 use lib.ListN.{length}
 use Rattle.std.proofs.shelf.Lists.{take-rest, take-all, drop-all, length-drop}
 use Rattle.std.proofs.shelf.Elements.{all-more}
 use Rattle.lines.proofs.Cutting.{first-line, only-line}
-use Rattle.lines.proofs.transcript.split_line.Needs as need
+use Rattle.lines.proofs.whole.split_line.Needs as need
 
 pub loop-i-again : need.loop-i-again
 loop-i-again c = all-more _ (c .args .text .now) (c .loop-i .i) 0 (c .loop-i-test .taken) (c .loop-i .inv) (c .if-byte-eq10 .left)

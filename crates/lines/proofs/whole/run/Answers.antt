@@ -3,13 +3,14 @@ use mathlib.Core.List.{append-assoc, append-nil}
 use native.Mathlib.Omega.{arith}
 use borrow.Author.Tests.{true-eqb}
 use lib.ListN.{length}
+use Rattle.std.proofs.shelf.Lists.{nil-from-length}
 use Rattle.classes.specs.Sixteens.{sixteens}
 use Rattle.profile.specs.History.{fresh}
 use Rattle.profile.specs.Stands.{setting}
 use Rattle.lines.specs.Answering.{after-line}
 use Rattle.lines.specs.Reading.{reads}
-use Rattle.lines.proofs.Cutting.{short-input, empty}
-use Rattle.lines.proofs.transcript.run.Needs as need
+use Rattle.lines.proofs.Cutting.{short-input}
+use Rattle.lines.proofs.whole.run.Needs as need
 
 pub loop-rest-holds : need.loop-rest-holds
 loop-rest-holds c = (
@@ -32,7 +33,7 @@ loop-rest-again c =
 
 pub returns : need.returns
 returns c =
-    let none = empty (c .loop-rest .rest .now) (true-eqb _ 0 (c .loop-rest-test .ensures tt)) in
+    let none = nil-from-length (c .loop-rest .rest .now) (true-eqb _ 0 (c .loop-rest-test .ensures tt)) in
     record {
       within = sym (c .in-Continue-within .ensures tt);
       text = sym (append-nil _) ∙ (rw none at (c .loop-rest .inv .1 .2));

@@ -6,8 +6,9 @@ use Rattle.std.specs.Of.String.{string-bytes}
 use Rattle.classes.specs.Sixteens.{sixteens}
 use Rattle.profile.specs.History.{History}
 use Rattle.profile.specs.Stands.{setting, Stands}
-use Rattle.lines.specs.Answering.{lines-of, replies, run-of}
-use Rattle.lines.proofs.transcript.run.Given as given
+use Rattle.lines.specs.Answering.{replies, run-of}
+use Rattle.lines.specs.Lines.{lines-of}
+use Rattle.lines.proofs.whole.run.Given as given
 
 -- at some history the profile stands, and what is written with what is left to answer is the whole text
 abbrev pub Inv-loop-rest : given.InvT-loop-rest

@@ -1,5 +1,5 @@
 use Rattle.lines.proofs.Cutting.{cut-into}
-use Rattle.lines.proofs.transcript.transcript.Needs as need
+use Rattle.lines.proofs.whole.transcript.Needs as need
 
 pub returns : need.returns
 returns c = record { text = c .text-of .ensures; lines = cut-into (c .args .input .now) }

@@ -1,5 +1,5 @@
 -- The class of a request in any plan.
-use mathlib.Core.Path.{_≡_, sym, ap, subst, _∙_}
+use mathlib.Core.Path.{_≡_, ap, _∙_}
 use mathlib.Core.Bool.{Bool, true, false, cond}
 use mathlib.Core.List.{List, [], _∷_}
 use mathlib.Core.Logic.{inl, inr}
@@ -13,10 +13,7 @@ use Rattle.std.specs.shelf.Lists.{leading}
 use Rattle.std.proofs.shelf.Lawful.{sorted-from-test, below-from-sorted}
 use Rattle.std.proofs.shelf.Tests.{lt-ltb, le-ltb, ltb-true, ltb-false, eqb-true, eqb-false, cases-bool, cases-eq, cases-lt, cond-both}
 use Rattle.std.specs.Results.{mapped}
-use Rattle.std.specs.declared.result.Result.{Result}
-use Rattle.std.specs.declared.result.Result.the-variants.{Ok, Err}
-use Rattle.classes.specs.declared.refusal.ClassRefusal.{ClassRefusal}
-use Rattle.classes.specs.Plan.{Plan, Lowest, Classed, largest, class-of, request-answer, class-answer, known-answer, block-answer}
+use Rattle.classes.specs.Plan.{Plan, Lowest, Classed, largest, class-of, class-answer}
 
 -- a list whose test computes to true is a plan
 pub plan-from-test : (bs : List ℕ) → T (sorted-test (unsigned .cmp) bs) → 1 ≤ length bs → length bs ≤ 256 → 1 ≤ getD bs 0 0 → largest bs ≤ 1048576 → Plan bs
@@ -99,27 +96,3 @@ module _ (bs : List ℕ) (plan : Plan bs) where
       (λ e. cond-both (ltb (largest bs) b) _ _ (λ r. Classed bs b (mapped (class-of bs) (λ e. e) r))
       (λ a d w. omega (arith, ltb-true _ _ a, not-above d (length bs - 1) (omega arith) (omega arith)))
       (λ a. (omega (arith, eqb-false b 0 e), lowest b (ltb-false _ _ a))))
-
-  -- both clauses of `class_of`, from the first
-  pub record Classing (b : ℕ) (r : Result ℕ ClassRefusal) : Type 0 where
-    pub value : r ≡ class-answer bs b
-    pub lowest : Classed bs b r
-
-  told : (b : ℕ) (r : Result ℕ ClassRefusal) → r ≡ class-answer bs b → Classing b r
-  told b r v = record { value = v; lowest = subst (Classed bs b) (sym v) (classed b) }
-
-  -- where the request is refused, and where it is not
-  module _ (b most : ℕ) (top : largest bs ≡ most) where
-    pub told-refused : (r : Result ℕ ClassRefusal) (e : ClassRefusal) → r ≡ Err e → Err e ≡ request-answer most b → Classing b r
-    told-refused r e is why = told b r (is ∙ ap (mapped (class-of bs) (λ e. e)) (why ∙ ap (λ m. request-answer m b) (sym top)))
-
-    pub told-class : (k c : ℕ) → c ≡ class-of bs k → Ok k ≡ request-answer most b → Classing b (Ok c)
-    told-class k c is why = told b (Ok c) (ap Ok is ∙ ap (mapped (class-of bs) (λ e. e)) (why ∙ ap (λ m. request-answer m b) (sym top)))
-
--- the clause of `block_size`, likewise
-module _ (bs : List ℕ) (n : ℕ) (long : length bs ≡ n) (class : ℕ) where
-  pub block-refused : (r : Result ℕ ClassRefusal) (e : ClassRefusal) → r ≡ Err e → Err e ≡ known-answer n class → r ≡ block-answer bs class
-  block-refused r e is why = is ∙ ap (mapped (λ c. getD bs c 0) (λ e. e)) (why ∙ ap (λ m. known-answer m class) (sym long))
-
-  pub block-given : (k b : ℕ) → b ≡ getD bs k 0 → Ok k ≡ known-answer n class → Ok b ≡ block-answer bs class
-  block-given k b is why = ap Ok is ∙ ap (mapped (λ c. getD bs c 0) (λ e. e)) (why ∙ ap (λ m. known-answer m class) (sym long))

@@ -1,8 +1,8 @@
 // The plan of quarters: 60 classes, from 64 bytes on four to each doubling of the block size.
 ghost use mathlib.Core.Path.{_≡_};
 ghost use Prim.Native.Nat.{_+_, _^_, _<_, _≤_};
-ghost use lib.ListN.{getD};
-ghost use Rattle.classes.specs.Plan.{class-of};
+ghost use lib.ListN.{length, getD};
+ghost use Rattle.classes.specs.Plan.{largest, class-of, class-answer};
 ghost use Rattle.classes.specs.Quarters.{quarters};
 use crate::common::admitted;
 use crate::common::known;
@@ -18,18 +18,38 @@ pub impl SizeClasses for Quarters as QuartersClasses {
     ghost blocks = { λ _. quarters };
 
     fn classes(&self) -> u32 {
-        60
+        class_count()
     }
 
     fn class_of(&self, bytes: u32) -> Result<u32, ClassRefusal> {
-        let bytes = admitted(bytes, 1_048_576)?;
-        Ok(class(bytes))
+        lowest_class(bytes)
     }
 
     fn block_size(&self, class: u32) -> Result<u32, ClassRefusal> {
-        let class = known(class, 60)?;
+        let class = known(class, class_count())?;
         Ok(block(class))
     }
+}
+
+fn lowest_class(bytes: u32) -> Result<u32, ClassRefusal>
+    ensures { λ r. ⌜ r ≡ class-answer quarters bytes ⌝ }
+{
+    let bytes = admitted(bytes, largest_request())?;
+    Ok(class(bytes))
+}
+
+fn class_count() -> u32
+    ensures value { λ r. ⌜ r ≡ 60 ⌝ }
+    ensures listed { λ r. ⌜ r ≡ length quarters ⌝ }
+{
+    60
+}
+
+fn largest_request() -> u32
+    ensures value { λ r. ⌜ r ≡ 1048576 ⌝ }
+    ensures listed { λ r. ⌜ r ≡ largest quarters ⌝ }
+{
+    1_048_576
 }
 
 fn class(bytes: u32) -> u32

@@ -1,18 +1,11 @@
-use mathlib.Core.Path.{ap, _∙_}
-use Rattle.std.proofs.shelf.Results.{err-from-errBy}
-use Rattle.std.specs.declared.result.Result.the-variants.{Err}
+use mathlib.Core.Path.{sym, subst}
+use Rattle.classes.specs.Plan.{Classed}
 use Rattle.classes.specs.Sixteens.{sixteens}
-use Rattle.classes.proofs.Plans.{told-refused, told-class}
-use Rattle.classes.proofs.SixteensBlocks.{sixteens-plan, sixteens-largest}
+use Rattle.classes.proofs.Plans.{classed}
+use Rattle.classes.proofs.SixteensBlocks.{sixteens-plan}
 use Rattle.classes.proofs.sixteens.SixteensClasses.class_of.Needs as need
-
-pub returns-in-Break-bytes : need.returns-in-Break-bytes
-returns-in-Break-bytes c =
-    let p = err-from-errBy (c .from-residual .result) (c .from-residual .ensures .1) in
-    let t = told-refused sixteens sixteens-plan (c .args .bytes) 4096 sixteens-largest (c .from-residual .result) (c .in-Break-bytes .field-0 .0) (p .1 ∙ ap Err (p .2)) (c .in-Break-bytes .ensures tt) in
-    record { value = t .value; lowest = t .lowest }
 
 pub returns : need.returns
 returns c =
-    let t = told-class sixteens sixteens-plan (c .args .bytes) 4096 sixteens-largest (c .in-Continue-bytes .bytes) (c .class .result) (c .class .ensures) (c .in-Continue-bytes .ensures tt) in
-    record { value = t .value; lowest = t .lowest }
+    let is = c .lowest-class .ensures in
+    record { value = is; lowest = subst (Classed sixteens (c .args .bytes)) (sym is) (classed sixteens sixteens-plan (c .args .bytes)) }

@@ -1,3 +1,4 @@
 pub mod Digits
 pub mod Cutting
 pub mod Writings
+pub mod Orders

@@ -1,9 +1,11 @@
 -- What a whole input is answered with.
+use mathlib.Core.Path.{_≡_}
 use mathlib.Core.Bool.{cond}
 use mathlib.Core.List.{List, [], _∷_, _++_}
-use Prim.Native.Nat.{ℕ, _+_}
+use Prim.Native.Nat.{ℕ, zero, suc, _+_, _<_}
 use lib.Dec.{ltb}
-use lib.ListN.{length}
+use lib.ListN.{length, getD}
+use Rattle.std.specs.Joined.{joined}
 use Rattle.std.specs.Results.{mapped}
 use Rattle.std.specs.declared.result.Result.{Result}
 use Rattle.std.specs.declared.result.Result.the-variants.{Ok, Err}
@@ -52,3 +54,18 @@ run-of input = replies (setting sixteens) fresh 1 (lines-of input)
 -- the whole output
 abbrev pub transcript-of : List ℕ → List ℕ
 transcript-of input = elim (input-answer (length input)) [ Ok _ ↦ run-of input | Err e ↦ refusal-line 0 (line-refusal-number e) ]
+
+-- the law of `run-of`: the text of each line's answer, one after the other
+
+-- the history of the lines before the place t, counted from 0
+abbrev pub before : Setting → History → List (List ℕ) → ℕ → History
+before s h [] t = h
+before s h (l ∷ ls) zero = h
+before s h (l ∷ ls) (suc t) = before s (after-line s h (reads l)) ls t
+
+-- the output is one text for each line, in their order: what the line is answered with at the history of the lines before it
+pub record In-order (s : Setting) (ls : List (List ℕ)) (out : List ℕ) : Type 0 where
+  pub texts : List (List ℕ)
+  pub long : length texts ≡ length ls
+  pub each : (t : ℕ) → t < length ls → getD texts t [] ≡ reply-line (t + 1) (answered s (before s fresh ls t) (reads (getD ls t [])))
+  pub whole : out ≡ joined (λ x. x) texts

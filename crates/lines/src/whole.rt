@@ -5,7 +5,10 @@ ghost use Prim.Native.Nat.{_<_, _≤_};
 ghost use lib.ListN.{length};
 ghost use Rattle.std.specs.Of.String.{string-bytes};
 ghost use Rattle.std.specs.Results.{Cases};
-ghost use Rattle.lines.specs.Answering.{input-answer, transcript-of};
+ghost use Rattle.std.specs.Vec.{made};
+ghost use Rattle.classes.specs.Sixteens.{sixteens};
+ghost use Rattle.profile.specs.Stands.{setting};
+ghost use Rattle.lines.specs.Answering.{input-answer, transcript-of, In-order};
 ghost use Rattle.lines.specs.Lines.{lines-of, Cut-into};
 ghost use Rattle.lines.specs.Replying.{Ran, Stopped};
 ghost use Rattle.lines.specs.declared.error.TextError.the-variants.{NoMemory};
@@ -79,6 +82,7 @@ fn text_of(heap: Global, input: &[u8]) -> Result<String, TextError>
 // The whole output of a whole input.
 pub fn transcript(heap: Global, input: &[u8]) -> Result<String, TextError>
     ensures text { λ r. ⌜ Cases r (λ t. string-bytes t ≡ transcript-of (now (input .entry))) (λ e. e ≡ NoMemory) ⌝ }
+    ensures order { λ r. ⌜ made r (λ t. length (now (input .entry)) ≤ 32768 → In-order (setting sixteens) (lines-of (now (input .entry))) (string-bytes t)) ⌝ }
     ensures lines { λ _. ⌜ Cut-into (now (input .entry)) (lines-of (now (input .entry))) ⌝ }
 {
     text_of(heap, input)

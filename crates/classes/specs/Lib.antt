@@ -2,6 +2,4 @@ pub mod Refusals
 pub mod Plan
 pub mod Sixteens
 pub mod Quarters
-pub mod QuartersBlocks
-pub mod Plans
-pub mod SixteensBlocks
+pub mod Lawful

@@ -1,3 +1,4 @@
+#![tactic(auto)]
 // Size classes: the trait that a plan of size classes keeps, and the two plans.
 mod common;
 mod plan;

@@ -2,7 +2,7 @@
 ghost use Rattle.std.specs.Prelude.{◌≡◌, ◌+◌, ◌^◌, ◌<◌, ◌≤◌, length, slice_index};
 ghost use Rattle.classes.specs.Plan.{largest, class_of, class_answer};
 ghost use Rattle.classes.specs.Quarters.{quarters};
-ghost use Rattle.classes.specs.QuartersBlocks.{quarters_plan};
+ghost use Rattle.classes.specs.Lawful.{quarters_plan};
 
 use crate::common::{admitted, known, sixteens_block, sixteenth};
 use crate::plan::SizeClasses;
@@ -14,7 +14,7 @@ pub struct Quarters;
 impl SizeClasses for Quarters {
     ghost blocks = { λ _. quarters };
 
-    ghost lawful = { λ x. quarters_plan };
+    ghost lawful = { λ _. quarters_plan };
 
     fn classes(&self) -> u32 {
         class_count()

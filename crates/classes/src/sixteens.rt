@@ -2,7 +2,7 @@
 ghost use Rattle.std.specs.Prelude.{◌≡◌, ◌<◌, ◌≤◌, length, slice_index};
 ghost use Rattle.classes.specs.Plan.{largest, class_of, class_answer};
 ghost use Rattle.classes.specs.Sixteens.{sixteens};
-ghost use Rattle.classes.specs.SixteensBlocks.{sixteens_plan};
+ghost use Rattle.classes.specs.Lawful.{sixteens_plan};
 
 use crate::common::{admitted, known, sixteens_block, sixteenth};
 use crate::plan::SizeClasses;
@@ -14,7 +14,7 @@ pub struct Sixteens;
 impl SizeClasses for Sixteens {
     ghost blocks = { λ _. sixteens };
 
-    ghost lawful = { λ x. sixteens_plan };
+    ghost lawful = { λ _. sixteens_plan };
 
     fn classes(&self) -> u32 {
         class_count()

@@ -1,3 +1,4 @@
+#![tactic(auto)]
 // Compares the two stores of bit rows with each other and with plain lists of bits.
 mod append;
 mod compare;

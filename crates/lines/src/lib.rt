@@ -1,3 +1,4 @@
+#![tactic(auto)]
 // The text of the line program: a line read as a call, an answer shown as a line, a whole input as a whole output.
 mod answering;
 mod call;

@@ -1,3 +1,4 @@
+#![tactic(auto)]
 // A store of bit rows over lent words that keeps its bits.
 mod plain;
 

@@ -1,3 +1,4 @@
+#![tactic(auto)]
 // The profile: requests are noted, each as a record of its class and its count.
 mod calls;
 mod noting;

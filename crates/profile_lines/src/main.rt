@@ -1,3 +1,4 @@
+#![tactic(auto)]
 // Answers the lines of the standard input on the standard output.
 use lines::transcript;
 use std::io::{Read, Write};

@@ -1,3 +1,4 @@
+#![tactic(auto)]
 // Bit rows: what a store of eight rows of bits means, as a trait, and the tests that every store makes.
 mod common;
 mod refusal;

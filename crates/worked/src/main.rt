@@ -1,3 +1,4 @@
+#![tactic(auto)]
 // Prints worked cases: what the library says of some requests, and what a plain search over the blocks says.
 use classes::{ClassRefusal, Quarters, Sixteens, SizeClasses};
 use std::{fmt, io};

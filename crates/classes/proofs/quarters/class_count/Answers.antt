@@ -1,5 +1,5 @@
 use Rattle.std.proofs.Common.{sym, refl}
-use Rattle.classes.specs.QuartersBlocks.{quarters_length}
+use Rattle.classes.proofs.QuartersBlocks.{quarters_length}
 use Rattle.classes.proofs.quarters.class_count.Goals as goal
 
 pub returns : goal.returns

@@ -1,5 +1,5 @@
 use Rattle.std.proofs.Common.{sym, refl}
-use Rattle.classes.specs.QuartersBlocks.{quarters_largest}
+use Rattle.classes.proofs.QuartersBlocks.{quarters_largest}
 use Rattle.classes.proofs.quarters.largest_request.Goals as goal
 
 pub returns : goal.returns

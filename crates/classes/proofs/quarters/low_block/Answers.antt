@@ -1,5 +1,5 @@
 use Rattle.std.proofs.Common.{sym, ◌∙◌}
-use Rattle.classes.specs.QuartersBlocks.{quarters_low}
+use Rattle.classes.proofs.QuartersBlocks.{quarters_low}
 use Rattle.classes.proofs.quarters.low_block.Goals as goal
 
 pub returns : goal.returns

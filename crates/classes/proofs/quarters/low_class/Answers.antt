@@ -1,4 +1,4 @@
-use Rattle.classes.specs.QuartersBlocks.{quarters_low_class}
+use Rattle.classes.proofs.QuartersBlocks.{quarters_low_class}
 use Rattle.classes.proofs.quarters.low_class.Goals as goal
 
 pub returns : goal.returns

@@ -1,4 +1,4 @@
-use Rattle.classes.specs.QuartersBlocks.{highest}
+use Rattle.classes.proofs.QuartersBlocks.{highest}
 use Rattle.classes.proofs.quarters.top_bit.Goals as goal
 
 pub returns : goal.returns

@@ -1,5 +1,5 @@
 use Rattle.std.proofs.Common.{sym, ◌∙◌}
-use Rattle.classes.specs.SixteensBlocks.{sixteens_at}
+use Rattle.classes.proofs.SixteensBlocks.{sixteens_at}
 use Rattle.classes.proofs.sixteens.block.Goals as goal
 
 pub returns : goal.returns

@@ -1,4 +1,4 @@
-use Rattle.classes.specs.SixteensBlocks.{sixteens_class}
+use Rattle.classes.proofs.SixteensBlocks.{sixteens_class}
 use Rattle.classes.proofs.sixteens.class.Goals as goal
 
 pub returns : goal.returns

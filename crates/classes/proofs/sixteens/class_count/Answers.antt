@@ -1,5 +1,5 @@
 use Rattle.std.proofs.Common.{sym, refl}
-use Rattle.classes.specs.SixteensBlocks.{sixteens_length}
+use Rattle.classes.proofs.SixteensBlocks.{sixteens_length}
 use Rattle.classes.proofs.sixteens.class_count.Goals as goal
 
 pub returns : goal.returns

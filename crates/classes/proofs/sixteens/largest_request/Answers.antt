@@ -1,5 +1,5 @@
 use Rattle.std.proofs.Common.{sym, refl}
-use Rattle.classes.specs.SixteensBlocks.{sixteens_largest}
+use Rattle.classes.proofs.SixteensBlocks.{sixteens_largest}
 use Rattle.classes.proofs.sixteens.largest_request.Goals as goal
 
 pub returns : goal.returns

@@ -6,22 +6,22 @@ use Rattle.compare_rows.specs.Appending.{Left, appended, appended_words}
 use Rattle.compare_rows.proofs.Appends.{rows_taken, words_taken, rows_refused, words_refused}
 use Rattle.compare_rows.proofs.append.append.Goals as goal
 
-pub returns-in-err-put : goal.returns-in-err-put
-returns-in-err-put g c =
+pub returns-in_err-put : goal.returns-in_err-put
+returns-in_err-put g c =
     let S = g.S.BitRows in
     let l = c.loop-run in
     let p = c.put.ensures in
     let t = c.put.new.self in
     let runs = c.args.runs.now in
     let room = S.limits l.rows in
-    let x = c.in-err-put.field-0.0 in
+    let x = c.in_err-put.field-0.0 in
     let h : l.run-index < length runs = omega (arith, c.loop-run-test.true) in
-    let was = sym p.answer ∙ c.in-err-put.was in
+    let was = sym p.answer ∙ c.in_err-put.was in
     let e = rows_refused S.wrote room c.args.row (S.rows l.rows) (S.lent l.rows) _ _ (S.rows t) (S.lent t) p.rows p.words x was
     ∙ sym (at_drop_more (appended room c.args.row (S.rows l.rows)) runs l.run-index _ h) ∙ l.invariant.2 in
     let w = words_refused S.wrote room c.args.row (S.rows l.rows) (S.lent l.rows) _ _ (S.rows t) (S.lent t) p.rows p.words x was
     ∙ sym (at_drop_more (appended_words S.wrote room c.args.row (S.rows l.rows) (S.lent l.rows)) runs l.run-index _ h) ∙ l.invariant.3 in
-    let q = err_from_is_err_and c.from-residual.result c.from-residual.ensures.1 in
+    let q = err_from_is_err_and c.from_residual.result c.from_residual.ensures.1 in
     record {
       answer = q.1 ∙ rw q.2 (ap (λ (a : Left). a.answer) e);
       rows = ap (λ (a : Left). a.rows) e;
@@ -39,7 +39,7 @@ loop-run-preserved g c =
     let runs = c.args.runs.now in
     let room = S.limits l.rows in
     let h : l.run-index < length runs = omega (arith, c.loop-run-test.true) in
-    let was = sym p.answer ∙ c.in-ok-put.was in (
+    let was = sym p.answer ∙ c.in_ok-put.was in (
       p.limits ∙ l.invariant.0,
       p.place ∙ l.invariant.1,
       ap (λ (r : Room). appended r c.args.row (S.rows t) (drop (l.run-index + 1) runs)) p.limits

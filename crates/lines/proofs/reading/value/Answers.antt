@@ -7,14 +7,14 @@ use Rattle.std.proofs.lemmas.Str.{digit_value_digit}
 use Rattle.lines.proofs.Digits.{digits_take, room}
 use Rattle.lines.proofs.reading.value.Goals as goal
 
-pub overflow-mul-n : goal.overflow-mul-n
-overflow-mul-n c = omega (arith, room c.args.figures.now c.loop-figure.figure-index (digits_take _ _ c.requires.digits) (simp length-take (omega arith)))
+pub overflow_mul-n : goal.overflow_mul-n
+overflow_mul-n c = omega (arith, room c.args.figures.now c.loop-figure.figure-index (digits_take _ _ c.requires.digits) (simp length-take (omega arith)))
 
-pub overflow-sub-figure : goal.overflow-sub-figure
-overflow-sub-figure c = (digit_at c.args.figures.now c.loop-figure.figure-index c.requires.digits c.loop-figure-test.true).0
+pub overflow_sub-figure : goal.overflow_sub-figure
+overflow_sub-figure c = (digit_at c.args.figures.now c.loop-figure.figure-index c.requires.digits c.loop-figure-test.true).0
 
-pub overflow-add-n : goal.overflow-add-n
-overflow-add-n c = omega (arith, room c.args.figures.now c.loop-figure.figure-index (digits_take _ _ c.requires.digits) (simp length-take (omega arith)), digit_at c.args.figures.now c.loop-figure.figure-index c.requires.digits c.loop-figure-test.true)
+pub overflow_add-n : goal.overflow_add-n
+overflow_add-n c = omega (arith, room c.args.figures.now c.loop-figure.figure-index (digits_take _ _ c.requires.digits) (simp length-take (omega arith)), digit_at c.args.figures.now c.loop-figure.figure-index c.requires.digits c.loop-figure-test.true)
 
 pub loop-figure-preserved : goal.loop-figure-preserved
 loop-figure-preserved c =

@@ -10,7 +10,7 @@ use Rattle.lines.proofs.whole.run.Goals as goal
 
 pub loop-rest-init : goal.loop-rest-init
 loop-rest-init c = (
-  omega (arith, short_input (length c.args.input.now) c.in-ok-within.ensures),
+  omega (arith, short_input (length c.args.input.now) c.in_ok-within.ensures),
   (fresh, c.new-profile.ensures.stands, rw c.new-out.ensures.bytes refl),
 )
 
@@ -18,12 +18,12 @@ pub loop-rest-preserved : goal.loop-rest-preserved
 loop-rest-preserved c =
     let inv = c.loop-rest.invariant in
     let h = inv.1.0 in
-    let replied = c.in-ok-reply.ensures in (
-      omega (arith, inv.0, c.split-line.ensures.shorter),
+    let replied = c.in_ok-reply.ensures in (
+      omega (arith, inv.0, c.split_line.ensures.shorter),
       (
-        after_line (setting sixteens) h (reads c.split-line.result.0.now),
+        after_line (setting sixteens) h (reads c.split_line.result.0.now),
         replied.stands h inv.1.1,
-        rw (replied.text h inv.1.1, append_assoc) (rw c.split-line.ensures.lines at inv.1.2),
+        rw (replied.text h inv.1.1, append_assoc) (rw c.split_line.ensures.lines at inv.1.2),
       ),
     )
 
@@ -31,6 +31,6 @@ pub returns : goal.returns
 returns c =
     let none = nil_from_length c.loop-rest.rest.now (true-eqb _ 0 c.loop-rest-test.ensures) in
     record {
-      within = sym c.in-ok-within.ensures;
+      within = sym c.in_ok-within.ensures;
       text = sym (append-nil _) ∙ (rw none at c.loop-rest.invariant.1.2);
     }

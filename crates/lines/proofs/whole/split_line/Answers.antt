@@ -19,6 +19,6 @@ returns c =
     let none = drop_all (length c.args.text.now) c.args.text.now (omega arith) in
     let far : c.loop-i.i ≡ length c.args.text.now = omega arith in
     record {
-      lines = rw (c.split-at.ensures.front, c.split-at.ensures.back, all, none) (only_line c.args.text.now c.requires (rw (far, all) at c.loop-i.invariant));
-      shorter = omega (arith, c.split-at.ensures.back_len);
+      lines = rw (c.split_at.ensures.front, c.split_at.ensures.back, all, none) (only_line c.args.text.now c.requires (rw (far, all) at c.loop-i.invariant));
+      shorter = omega (arith, c.split_at.ensures.back_len);
     }

@@ -4,5 +4,5 @@ use Rattle.lines.proofs.whole.transcript.Goals as goal
 
 pub returns : goal.returns
 returns c =
-    let is = c.text-of.ensures in
-    record { text = is; order = in_order c.args.input.now c.text-of.result is; lines = cut_into c.args.input.now }
+    let is = c.text_of.ensures in
+    record { text = is; order = in_order c.args.input.now c.text_of.result is; lines = cut_into c.args.input.now }

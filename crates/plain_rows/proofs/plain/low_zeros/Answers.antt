@@ -6,4 +6,4 @@ use Rattle.plain_rows.proofs.plain.low_zeros.Goals as goal
 
 pub returns : goal.returns
 returns c =
-    ap (λ (m : ℕ). c.args.k - ones (bit_and c.args.word m)) c.low-ones.ensures ∙ ap (λ (n : ℕ). c.args.k - ones n) (and_mask c.args.word c.args.k)
+    ap (λ (m : ℕ). c.args.k - ones (bit_and c.args.word m)) c.low_ones.ensures ∙ ap (λ (n : ℕ). c.args.k - ones n) (and_mask c.args.word c.args.k)

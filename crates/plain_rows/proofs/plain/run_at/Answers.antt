@@ -5,4 +5,4 @@ use Rattle.plain_rows.proofs.plain.run_at.Goals as goal
 
 pub returns-then-bit : goal.returns-then-bit
 returns-then-bit c =
-    rw (c.if-bit.true, c.low-ones.ensures) (shl_whole (2 ^ c.args.count - 1) c.args.count c.args.k 64 (ones_lt c.args.count) (omega (arith, c.requires.1)))
+    rw (c.if-bit.true, c.low_ones.ensures) (shl_whole (2 ^ c.args.count - 1) c.args.count c.args.k 64 (ones_lt c.args.count) (omega (arith, c.requires.1)))

@@ -6,7 +6,7 @@ use Rattle.rows.proofs.common.zero_front.Goals as goal
 
 pub loop-i-preserved : goal.loop-i-preserved
 loop-i-preserved c =
-    c.zero-at.ensures ∙ ap (λ (t : List ℕ). set t c.loop-i.i 0) c.loop-i.invariant ∙ fill_more c.loop-i.i 0 c.args.words.now (omega (arith, c.min-end.ensures, c.loop-i-test.true))
+    c.zero_at.ensures ∙ ap (λ (t : List ℕ). set t c.loop-i.i 0) c.loop-i.invariant ∙ fill_more c.loop-i.i 0 c.args.words.now (omega (arith, c.min-end.ensures, c.loop-i-test.true))
 
 pub returns : goal.returns
 returns c =

@@ -3,9 +3,9 @@ use Rattle.plain_rows.specs.PlainWords.{plain_rows, bits_of}
 use Rattle.plain_rows.proofs.PlainMade.{sound_wiped}
 use Rattle.plain_rows.proofs.plain.PlainRows.new.Goals as goal
 
-pub invariant-of-result : goal.invariant-of-result
-invariant-of-result c =
-    let room = c.granted-room-room.result in
+pub invariant_of-result : goal.invariant_of-result
+invariant_of-result c =
+    let room = c.granted_room-room.result in
     let g = sound_wiped room room c.args.words.now c.wipe.new.words _ _ (search rules) (search rules) (search rules) refl c.wipe.ensures refl refl in
     (g.few, (g.narrow, (g.enough, (g.eight, (g.within, (g.ok, tt))))))
 

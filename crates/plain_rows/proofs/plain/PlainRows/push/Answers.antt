@@ -31,8 +31,8 @@ count-requires c =
       );
     }
 
-pub invariant-of-self : goal.invariant-of-self
-invariant-of-self c =
+pub invariant_of-self : goal.invariant_of-self
+invariant_of-self c =
     let s = c.args.self.now in
     let t = c.append.new.self in
     let a = c.append.ensures in

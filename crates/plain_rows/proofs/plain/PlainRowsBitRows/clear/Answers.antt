@@ -4,8 +4,8 @@ use Rattle.plain_rows.specs.PlainWords.{bit_words, plain_wiped}
 use Rattle.plain_rows.proofs.PlainMade.{sound_wiped, rows_none}
 use Rattle.plain_rows.proofs.plain.PlainRowsBitRows.clear.Goals as goal
 
-pub invariant-of-self : goal.invariant-of-self
-invariant-of-self c =
+pub invariant_of-self : goal.invariant_of-self
+invariant_of-self c =
     let s = c.args.self.now in
     let t = c.empty.new.self in
     let w = c.empty.ensures in

@@ -4,15 +4,15 @@ use Rattle.run_rows.proofs.RunZeros.{few_taken, filled_at}
 use Rattle.run_rows.proofs.RunGood.{good}
 use Rattle.run_rows.proofs.runs.RunRows.word.Goals as goal
 
-pub overflow-add-result : goal.overflow-add-result
-overflow-add-result c =
+pub overflow_add-result : goal.overflow_add-result
+overflow_add-result c =
     let s = c.args.self.now in
     let p = c.requires in
     let t = few_taken s.room s.words.now s.taken c.args.row (good s) p.low in
     omega (arith, small s.room.puts c.args.row c.args.t s.few p.low (omega (arith, t, p.taken)))
 
-pub offset-bounds-self-self : goal.offset-bounds-self-self
-offset-bounds-self-self c =
+pub offset_bounds-self-self : goal.offset_bounds-self-self
+offset_bounds-self-self c =
     let s = c.args.self.now in
     let p = c.requires in
     let t = few_taken s.room s.words.now s.taken c.args.row (good s) p.low in

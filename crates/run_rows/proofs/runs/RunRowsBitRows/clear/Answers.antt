@@ -5,8 +5,8 @@ use Rattle.run_rows.proofs.RunGood.{good}
 use Rattle.run_rows.proofs.RunMade.{good_wiped}
 use Rattle.run_rows.proofs.runs.RunRowsBitRows.clear.Goals as goal
 
-pub invariant-of-self : goal.invariant-of-self
-invariant-of-self c =
+pub invariant_of-self : goal.invariant_of-self
+invariant_of-self c =
     let s = c.args.self.now in
     let t = c.empty.new.self in
     let w = c.empty.ensures in

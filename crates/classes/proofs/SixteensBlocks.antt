@@ -1,10 +1,11 @@
 -- The plan of sixteens.
 use Rattle.std.specs.Prelude.{◌≡◌, ℕ, ◌+◌, ◌-◌, ◌*◌, ◌<◌, ◌≤◌, length, slice_index, refl}
-use Rattle.std.proofs.Common.{sym, arith, lit≤}
+use Rattle.std.proofs.Common.{sym, arith}
 use Rattle.std.proofs.lemmas.List.FromFn.{get_or-map-range_with_len}
-use Rattle.classes.specs.Plan.{Plan, largest, class_of}
+use Rattle.classes.specs.Plan.{largest, class_of}
 use Rattle.classes.specs.Sixteens.{sixteens_block, sixteens}
-use Rattle.classes.specs.Plans.{plan_from_test, class_is}
+use Rattle.classes.specs.Lawful.{sixteens_plan}
+use Rattle.classes.proofs.Plans.{class_is}
 
 pub sixteens_length : length sixteens ≡ 256
 unfolding sixteens
@@ -17,10 +18,6 @@ sixteens_largest = refl
 pub sixteens_at : (c : ℕ) → c < 256 → slice_index sixteens c ≡ 16 * (c + 1)
 unfolding sixteens
 sixteens_at c l = get_or-map-range_with_len sixteens_block 0 256 c c 0 l (omega arith)
-
-pub sixteens_plan : Plan sixteens
-unfolding sixteens
-sixteens_plan = plan_from_test sixteens tt (lit≤ tt) (lit≤ tt) (lit≤ tt) (lit≤ tt)
 
 pub sixteens_class : (b c : ℕ) → 16 * c < b → b ≤ 16 * (c + 1) → b ≤ 4096 → c ≡ class_of sixteens b
 sixteens_class b c over under small =

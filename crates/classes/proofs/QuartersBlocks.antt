@@ -1,14 +1,15 @@
 -- The plan of quarters.
-use Rattle.std.specs.Prelude.{◌≡◌, ℕ, zero, suc, ◌+◌, ◌-◌, ◌*◌, ◌/◌, ◌%◌, ◌^◌, ◌<◌, ◌≤◌, Bool, true, cond, ◌&&◌, length, ◌==◌, slice_index, slice_index_or, refl}
+use Rattle.std.specs.Prelude.{◌≡◌, ℕ, zero, suc, ◌+◌, ◌-◌, ◌*◌, ◌/◌, ◌%◌, ◌^◌, ◌<◌, ◌≤◌, Bool, true, ◌&&◌, length, ◌==◌, slice_index, slice_index_or, refl}
 use Rattle.std.proofs.Common.{sym, ap, ◌∙◌, add-mul, add-one, arith, lit≤, inl, inr}
 use Rattle.std.proofs.Math.Nat.{pow-le-pow_right}
 use Rattle.std.specs.Int.Count.{count_leading_zeros}
 use Rattle.std.proofs.lemmas.Nat.{leading_top, pow_pos, pow-add, pow_below, one_shl, shl_whole, shl_below, div-add-mod', div_below, le-div, mod_below}
 use Rattle.std.proofs.lemmas.List.FromFn.{get_or-map-range_with_len}
 use Rattle.std.proofs.lemmas.Bool.{lt-ltb, le-ltb, and_parts, eqb-true, cases_eq, cases_lt}
-use Rattle.classes.specs.Plan.{Plan, largest, class_of}
+use Rattle.classes.specs.Plan.{largest, class_of}
 use Rattle.classes.specs.Quarters.{quarter_block, quarters_block, quarters}
-use Rattle.classes.specs.Plans.{plan_from_test, class_is}
+use Rattle.classes.specs.Lawful.{quarters_plan}
+use Rattle.classes.proofs.Plans.{class_is}
 
 pub quarters_length : length quarters ≡ 60
 unfolding quarters
@@ -17,10 +18,6 @@ quarters_length = refl
 pub quarters_largest : largest quarters ≡ 1048576
 unfolding quarters
 quarters_largest = refl
-
-pub quarters_plan : Plan quarters
-unfolding quarters
-quarters_plan = plan_from_test quarters tt (lit≤ tt) (lit≤ tt) (lit≤ tt) (lit≤ tt)
 
 quarters_at : (c : ℕ) → c < 60 → slice_index quarters c ≡ quarters_block c
 unfolding quarters

@@ -1,24 +1,10 @@
 -- The class of a request in any plan.
-use Rattle.std.specs.Prelude.{◌≡◌, ℕ, zero, suc, ◌+◌, ◌-◌, ◌<◌, ◌≤◌, Bool, true, false, cond, T, ltb, List, [], ◌∷◌, length, ◌==◌, nat_lt, slice_index, slice_index_or}
+use Rattle.std.specs.Prelude.{◌≡◌, ℕ, zero, suc, ◌+◌, ◌-◌, ◌<◌, ◌≤◌, Bool, true, false, cond, ltb, List, [], ◌∷◌, length, ◌==◌, nat_lt, slice_index, slice_index_or}
 use Rattle.std.proofs.Common.{ap, ◌∙◌, inl, inr, arith}
-use Rattle.std.specs.Map.Invariant.{is-strictly-sorted-by}
 use Rattle.std.specs.List.{prefix_len}
-use Rattle.std.proofs.lemmas.Map.Invariant.{sorted-from-test}
-use Rattle.std.proofs.lemmas.Map.Keys.{below_from_sorted}
 use Rattle.std.proofs.lemmas.Bool.{lt-ltb, le-ltb, ltb-true, ltb-false, eqb-true, eqb-false, cases_Bool, cases_eq, cases_lt, cond_both}
 use Rattle.std.specs.Result.{result_map_both}
 use Rattle.classes.specs.Plan.{Plan, Lowest, Classed, largest, class_of, class_answer}
-use Rattle.std.specs.Ordering.{nat_cmp}
-
--- a list whose test computes to true is a plan
-pub plan_from_test : (bs : List ℕ) → T (is-strictly-sorted-by nat_cmp bs) → 1 ≤ length bs → length bs ≤ 256 → 1 ≤ slice_index bs 0 → largest bs ≤ 1048576 → Plan bs
-plan_from_test bs t some few first last = record {
-  some = some;
-  few = few;
-  first = first;
-  rising = λ i j l w. below_from_sorted bs i j 0 (sorted-from-test nat_cmp bs t) l w;
-  last = last;
-}
 
 -- the front that passes: what stands in it, and what ends it
 pub leading_front : {X : Type 0} (p : X → Bool) (d : X) (xs : List X) (k : ℕ) → k < prefix_len p xs → p (slice_index_or xs k d) ≡ true

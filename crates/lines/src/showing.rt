@@ -24,7 +24,7 @@ impl fmt::Display for Answer {
 pub(crate) fn show(out: &mut String, answer: Answer) -> Result<(), TextError>
     ensures { MatchResult result (λ _. string_bytes out.new ≡ string_bytes out.old ++ answer_line answer) (λ e. e ≡ NoMemory) }
 {
-    write!(out, "{answer}")?;
+    write!(out, "{answer}").map_err(fmt::Error::from)?;
     Ok(())
 }
 
@@ -32,6 +32,6 @@ pub(crate) fn refuse(out: &mut String, place: u32, refusal: LineRefusal) -> Resu
     ensures { MatchResult result (λ _. string_bytes out.new ≡ string_bytes out.old ++ refusal_line place (line_refusal_number refusal)) (λ e. e ≡ NoMemory) }
 {
     let number = refusal.number();
-    writeln!(out, "! {place} {number}")?;
+    writeln!(out, "! {place} {number}").map_err(fmt::Error::from)?;
     Ok(())
 }

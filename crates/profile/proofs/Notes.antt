@@ -13,7 +13,7 @@ use Rattle.profile.specs.declared.profile.Profile.{Profile}
 use Rattle.profile.specs.declared.refusal.Refusal.{Refusal}
 use Rattle.profile.specs.declared.refusal.Refusal.TheVariants.{Class}
 use Rattle.profile.specs.History.{Note, History, Setting}
-use Rattle.profile.specs.Noting.{count_answer, record_answer, room_answer, weight, note_answer, noted, after_note, Served, Sound, Takes, NotedBy}
+use Rattle.profile.specs.Noting.{count_answer, record_answer, room_answer, weight, note_answer, noted, after_note, Served, Sound, NotedBy}
 use Rattle.profile.specs.Passing.{passing, onward}
 use Rattle.profile.specs.Stands.{setting, setting_of, kept_as, Kept, Stands, Told, Wherever, Added}
 

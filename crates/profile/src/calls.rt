@@ -19,7 +19,7 @@ impl<P: SizeClasses> Profile<P> {
     // A new profile over a plan: nothing is noted.
     pub fn new(plan: P) -> Profile<P>
         ensures plan { result.plan ≡ plan }
-        ensures stands { Stands (setting (blocks plan)) fresh result }
+        ensures stands { Stands (setting (P.blocks plan)) fresh result }
     {
         Profile {
             plan,
@@ -29,8 +29,8 @@ impl<P: SizeClasses> Profile<P> {
 
     // Notes so many requests of so many bytes as one record; the number of records then held.
     pub fn note(&mut self, bytes: u32, count: u32) -> Result<u32, Refusal>
-        ensures told { Told blocks self.old self.new (λ s h. after_note s h bytes count) (λ s h. note_answer s h bytes count) result }
-        ensures why { Wherever blocks self.old (λ s h. NotedBy s h bytes count result) }
+        ensures told { Told P.blocks self.old self.new (λ s h. after_note s h bytes count) (λ s h. note_answer s h bytes count) result }
+        ensures why { Wherever P.blocks self.old (λ s h. NotedBy s h bytes count result) }
         ensures refused { is_ok result ≡ false → self.new ≡ self.old }
     {
         let item = record_of(&self.plan, bytes, count)?;

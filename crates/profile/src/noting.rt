@@ -19,7 +19,7 @@ fn counted(count: u32) -> Result<u16, Refusal>
 
 // The record that a request becomes.
 pub(crate) fn record_of<P: SizeClasses>(plan: &P, bytes: u32, count: u32) -> Result<Record, Refusal>
-    ensures { result ≡ record_answer (blocks plan.now) bytes count }
+    ensures { result ≡ record_answer (P.blocks plan.now) bytes count }
 {
     let class = plan.class_of(bytes)?;
     let count = counted(count)?;

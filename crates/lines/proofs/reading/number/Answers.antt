@@ -13,5 +13,5 @@ value-requires c =
     let w = within_nine (prefix_len is_ascii_digit c.in-Some-eq32-default.rest.now) c.in_ok-n.n c.in_ok-n.ensures in
     record {
       digits = rw (c.split_at.ensures.front, w.0) (front_digits c.in-Some-eq32-default.rest.now);
-      short = omega (arith, w, c.split_at.ensures.front-len);
+      short = omega (arith, w, c.split_at.ensures.front_len);
     }

@@ -1,6 +1,6 @@
 -- How a text is cut into lines, and the law of it.
 use Rattle.std.specs.Prelude.{◌≡◌, ℕ, ◌≤◌, cond, ◌⊎◌, List, [], ◌∷◌, ◌++◌, length, ◌==◌, ◌≢◌}
-use Rattle.std.specs.List.{AllByRecursion as All}
+use Rattle.std.specs.List.{AllByRecursion}
 
 -- b before the first line
 abbrev pub onto_first : ℕ → List (List ℕ) → List (List ℕ)
@@ -14,7 +14,7 @@ lines_of (b ∷ bs) = cond (b == 10) ([] ∷ lines_of bs) (onto_first b (lines_o
 
 -- no line ends in xs
 abbrev pub Endless : List ℕ → Type 0
-Endless xs = All (λ b. b ≢ 10) xs
+Endless xs = AllByRecursion (λ b. b ≢ 10) xs
 
 -- each line ends at byte 10, or at the end of the text if it has a byte
 abbrev pub Lines : List (List ℕ) → List ℕ → Type 0

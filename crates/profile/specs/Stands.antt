@@ -1,6 +1,6 @@
 -- When a profile is what a history says, and what one call does to it.
 use Rattle.std.specs.Prelude.{◌≡◌, ℕ, ◌+◌, ◌≤◌, List, [], ◌∷◌, ◌++◌, map, length, take, Ok, Result, MatchResult}
-use Rattle.std.specs.List.{AllByRecursion as All}
+use Rattle.std.specs.List.{AllByRecursion}
 use Rattle.classes.specs.Plan.{class_of}
 use Rattle.profile.specs.declared.pending.Record.{Record}
 use Rattle.profile.specs.declared.pending.Pending.{Pending}
@@ -27,7 +27,7 @@ pub record Kept (s : Setting) (ns : List Note) (p : Pending) : Type 0 where
   pub long : p.len ≡ length ns
   pub records : held p ≡ map (kept_as s.blocks) ns
   pub total : p.total ≡ weight ns
-  pub sound : All (Sound s.blocks) ns
+  pub sound : AllByRecursion (Sound s.blocks) ns
   pub few : length ns ≤ s.records
   pub light : weight ns ≤ s.total
 

@@ -1,5 +1,5 @@
 -- The words of one row's puts, and of eight rows: what they stand for, and that it is within the room.
-use Rattle.std.specs.Prelude.{◌≡◌, ℕ, zero, suc, ◌+◌, ◌-◌, ◌*◌, ◌<◌, ◌≤◌, true, ◌⊎◌, List, [], ◌∷◌, length, take, drop, ◌==◌, nat_le, slice_index, slice_range, refl}
+use Rattle.std.specs.Prelude.{◌≡◌, ℕ, zero, suc, ◌+◌, ◌-◌, ◌*◌, ◌<◌, ◌≤◌, true, ◌⊎◌, List, [], ◌∷◌, length, take, drop, ◌==◌, nat_le, slice_index, refl}
 use Rattle.std.proofs.Common.{ap, ◌∙◌, inl, inr, ⊎_elim, mul-suc, mul-zero, zero-add, arith}
 use Rattle.std.proofs.lemmas.List.{length-append, length-replicate, drop-drop}
 use Rattle.std.proofs.lemmas.Bool.{and_parts, or_cases, ltb-true, leb-true, eqb-true}
@@ -58,14 +58,14 @@ rows_at most ws (p ∷ ps) (suc row) = rw (← next_row most row ws) (rows_at mo
 pub record FirstRow (most wide : ℕ) (ws : List ℕ) (p : ℕ) (ps : List ℕ) : Type 0 where
   pub low : p ≤ most
   pub chain : chained wide 0 (take p ws) ≡ true
-  pub rest : blank (slice_range ws p most) ≡ true
+  pub rest : blank (take (most - p) (drop p ws)) ≡ true
   pub more : well_laid most wide (drop most ws) ps ≡ true
 
 pub laid_parts : (most wide : ℕ) (ws : List ℕ) (p : ℕ) (ps : List ℕ) → well_laid most wide ws (p ∷ ps) ≡ true → FirstRow most wide ws p ps
 laid_parts most wide ws p ps e =
     let a = and_parts (nat_le p most) _ e in
     let b = and_parts (chained wide 0 (take p ws)) _ a.1 in
-    let f = and_parts (blank (slice_range ws p most)) _ b.1 in
+    let f = and_parts (blank (take (most - p) (drop p ws))) _ b.1 in
     record { low = leb-true p most a.0; chain = b.0; rest = f.0; more = f.1 }
 
 pub laid_at : (most wide : ℕ) (ws ps : List ℕ) (row : ℕ) → well_laid most wide ws ps ≡ true →

@@ -1,5 +1,5 @@
 -- The words of a store that keeps its puts lie as the law of the layout says.
-use Rattle.std.specs.Prelude.{◌≡◌, ℕ, zero, suc, ◌+◌, ◌-◌, ◌*◌, ◌<◌, ◌≤◌, Bool, true, cond, List, [], ◌∷◌, ◌++◌, length, take, drop, replicate, ◌==◌, slice_index, slice_index_or, slice_range, refl}
+use Rattle.std.specs.Prelude.{◌≡◌, ℕ, zero, suc, ◌+◌, ◌-◌, ◌*◌, ◌<◌, ◌≤◌, Bool, true, cond, List, [], ◌∷◌, ◌++◌, length, take, drop, replicate, ◌==◌, slice_index, slice_index_or, refl}
 use Rattle.std.proofs.Common.{sym, ap, ◌∙◌, ⊎_elim, mul-suc, mul-zero, mul_comm, mul-le-mul_left, arith}
 use Rattle.std.specs.List.{AllByRecursion as All}
 use Rattle.std.proofs.lemmas.Nat.{div-add-mod'}
@@ -86,9 +86,9 @@ run_words_lie room ws ps enough eight ok = record {
       let fl : length f ≡ n = length-take-le n xs (omega (arith, few, long)) in
       let cut : take most xs ≡ f ++ take (most - n) (drop n xs) =
       ap (λ (k : ℕ). take k xs) (let e : most ≡ n + (most - n) = omega (arith, few) in e) ∙ take_parts n (most - n) xs in
-      let rl : length (slice_range xs n most) ≡ most - n = length-take-le (most - n) (drop n xs) (rw (length-drop n xs) (omega (arith, few, long))) in
+      let rl : length (take (most - n) (drop n xs)) ≡ most - n = length-take-le (most - n) (drop n xs) (rw (length-drop n xs) (omega (arith, few, long))) in
       let rest : take (most - n) (drop n xs) ≡ replicate (most - n) 0 =
-      blank_is (slice_range xs n most) (rest_blank most room.bits ws ps row ok (omega (arith, eight, low))) ∙ ap (λ (k : ℕ). replicate k 0) rl in
+      blank_is (take (most - n) (drop n xs)) (rest_blank most room.bits ws ps row ok (omega (arith, eight, low))) ∙ ap (λ (k : ℕ). replicate k 0) rl in
       let many : length (puts_from 0 f) ≡ n = length-puts 0 f ∙ fl in
       record {
         puts = puts_from 0 f;

@@ -36,7 +36,7 @@ invariant_of-self c =
     t.room t.words.now t.taken (a.room ∙ ap (λ (x : RunRows). x.room) v)
     (a.words ∙ ap (λ (x : RunRows). set x.words.now (x.room.puts * row + get_or x.taken row 0) w.result) v)
     (a.taken ∙ ap (λ (x : RunRows). set x.taken row (get_or x.taken row 0 + 1)) v) in
-    (g.few, (g.narrow, (g.enough, (g.eight, (g.ok, tt)))))
+    record { few = g.few; narrow = g.narrow; enough = g.enough; eight = g.eight; ok = g.ok }
 
 pub returns : goal.returns
 returns c =

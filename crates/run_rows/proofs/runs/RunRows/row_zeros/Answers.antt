@@ -8,24 +8,24 @@ pub returns-then-at-self : goal.returns-then-at-self
 returns-then-at-self c =
     let s = c.args.self.now in
     let b = c.word_before-before in
-    sym (zeros_end s.room s.words.now s.taken c.args.row (good s) c.requires.low c.args.position c.ended_at.result b.result
-    c.requires.inside b.ensures (rw b.ensures c.ended_at.ensures.before) c.if-at-self.true)
+    sym (zeros_end s.room s.words.now s.taken c.args.row (good s) c.requires.low c.args.position c.ended-at.result b.result
+    c.requires.inside b.ensures (rw b.ensures c.ended-at.ensures.before) c.if-at-self.true)
 
 pub zeros_by-requires : goal.zeros_by-requires
 zeros_by-requires c =
     let s = c.args.self.now in
     let b = c.word_before-before in
     record {
-      past = rw b.ensures c.ended_at.ensures.before;
-      up = rw (b.ensures, c.word.ensures) (zeros_up s.room s.words.now s.taken c.args.row (good s) c.requires.low c.ended_at.result
-          (omega (arith, c.ended_at.ensures.within, c.if-at-self.false)));
+      past = rw b.ensures c.ended-at.ensures.before;
+      up = rw (b.ensures, c.word.ensures) (zeros_up s.room s.words.now s.taken c.args.row (good s) c.requires.low c.ended-at.result
+          (omega (arith, c.ended-at.ensures.within, c.if-at-self.false)));
     }
 
 pub returns : goal.returns
 returns c =
     let s = c.args.self.now in
     let b = c.word_before-before in
-    let l : c.ended_at.result < get_or s.taken c.args.row 0 = omega (arith, c.ended_at.ensures.within, c.if-at-self.false) in
-    let z = zeros_inside s.room s.words.now s.taken c.args.row (good s) c.requires.low c.args.position c.ended_at.result b.result
-    c.requires.inside b.ensures (rw b.ensures c.ended_at.ensures.before) l (c.ended_at.ensures.after l) in
+    let l : c.ended-at.result < get_or s.taken c.args.row 0 = omega (arith, c.ended-at.ensures.within, c.if-at-self.false) in
+    let z = zeros_inside s.room s.words.now s.taken c.args.row (good s) c.requires.low c.args.position c.ended-at.result b.result
+    c.requires.inside b.ensures (rw b.ensures c.ended-at.ensures.before) l (c.ended-at.ensures.after l) in
     c.zeros_by.ensures ∙ ap (λ (w : ℕ). zeros_of b.result + min (c.args.position - end_of b.result) (zeros_of w - zeros_of b.result)) c.word.ensures ∙ sym z

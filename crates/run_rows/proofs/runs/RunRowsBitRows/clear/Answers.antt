@@ -13,4 +13,4 @@ invariant_of-self c =
     let v = c.replace-words.ensures.value in
     let g = good_wiped s.room t.room s.words.now t.words.now s.taken t.taken (good s)
     (w.room ∙ ap (λ (x : RunRows). x.room) v) (w.words ∙ ap (λ (x : RunRows). run_wiped x.room x.words.now) v) w.taken in
-    (g.few, (g.narrow, (g.enough, (g.eight, (g.ok, tt)))))
+    record { few = g.few; narrow = g.narrow; enough = g.enough; eight = g.eight; ok = g.ok }

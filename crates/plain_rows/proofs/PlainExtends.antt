@@ -1,7 +1,7 @@
 -- What `extend`, `append` and a counted put leave.
 use Rattle.std.proofs.Common.{◌≡◌, ℕ, ◌+◌, ◌-◌, ◌*◌, ◌/◌, ◌%◌, ◌^◌, ◌<◌, ◌≤◌, Bool, cond, List, ◌++◌, length, get_or, drop, set, replicate, sym, refl, ap, ◌∙◌, ⊎_elim, add-zero, add_assoc, mod-eq_of_lt, arith}
-use lib.Bits.{bit_or}
-use lib.Count.{ones}
+use Rattle.std.specs.Int.Bits.{bit_or}
+use Rattle.std.specs.Int.Count.{ones}
 use Rattle.std.proofs.lemmas.Nat.{or_lt}
 use Rattle.std.proofs.lemmas.List.{append_assoc, append-nil, replicate-append-replicate, get_or-set_same, get_or-set_other, length-set, set-set, set-get_or, drop-set-lt, ext_get_or}
 use Rattle.std.proofs.lemmas.Bool.{cases_eq}

@@ -1,7 +1,7 @@
 -- The number of some bits, and the words of a row.
 use Rattle.std.proofs.Common.{◌≡◌, ℕ, zero, suc, ◌+◌, ◌-◌, ◌*◌, ◌/◌, ◌%◌, ◌^◌, ◌<◌, ◌≤◌, Bool, true, false, cond, eqb, ◌⊎◌, List, [], ◌∷◌, ◌++◌, length, get_or, take, drop, replicate, sym, refl, ap, ◌∙◌, subst, inl, inr, ⊎_elim, mod-eq_of_lt, mul_assoc, pow-suc, one-add, arith, pow_pos, pow_mono}
-use native.Mathlib.Nat.{zero-div}
-use lib.Count.{ones, ones_step, ones-le}
+use Rattle.std.proofs.Math.Nat.{zero-div}
+use Rattle.std.specs.Int.Count.{ones, ones_step, ones-le}
 use Rattle.std.proofs.lemmas.List.FromFn.{get_or-map-range_with_len}
 use Rattle.std.proofs.lemmas.Nat.{shr-shr, mod_low}
 use Rattle.std.proofs.lemmas.List.{ext_get_or, get_or-take, get_or-drop, length-drop, length-take, length-take-le, length-append, take-append-drop, take-append-le, take-take, take_all, drop-append-le, drop_all}

@@ -1,6 +1,6 @@
 -- The zeros before a position, from a count and a word.
 use Rattle.std.proofs.Common.{◌≡◌, ℕ, ◌+◌, ◌-◌, ◌*◌, ◌/◌, ◌%◌, ◌^◌, ◌<◌, ◌≤◌, Bool, List, length, get_or, take, sym, ap, ◌∙◌, mod-lt, arith, pow_pos}
-use lib.Count.{ones, ones-le}
+use Rattle.std.specs.Int.Count.{ones, ones-le}
 use Rattle.rows.specs.declared.room.Room.{Room}
 use Rattle.rows.specs.Meaning.{Row, row_at, zeros_in}
 use Rattle.plain_rows.specs.PlainWords.{bit_words, word, zeros_before, bits_of, plain_rows, view, fields, Sound}

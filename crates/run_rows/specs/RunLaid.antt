@@ -1,7 +1,7 @@
 -- The words of a store that keeps its puts lie as the law of the layout says.
 use Rattle.std.specs.Prelude.{◌≡◌, ℕ, zero, suc, ◌+◌, ◌-◌, ◌*◌, ◌<◌, ◌≤◌, Bool, true, cond, List, [], ◌∷◌, ◌++◌, length, take, drop, replicate, ◌==◌, slice_index, slice_index_or, refl}
 use Rattle.std.proofs.Common.{sym, ap, ◌∙◌, ⊎_elim, mul-suc, mul-zero, mul_comm, mul-le-mul_left, arith}
-use Rattle.std.specs.List.{AllByRecursion as All}
+use Rattle.std.specs.List.{AllByRecursion}
 use Rattle.std.proofs.lemmas.Nat.{div-add-mod'}
 use Rattle.std.proofs.lemmas.List.{length-append, length-replicate, length-drop, length-take-le}
 use Rattle.std.proofs.lemmas.Bool.{and_parts, eqb-true, eq-eqb, ne_eqb}
@@ -25,7 +25,7 @@ bits_puts : (d : ℕ) (ws : List ℕ) → put_bits (puts_from d ws) ≡ bits_fro
 bits_puts d [] = refl
 bits_puts d (w ∷ ws) = ap (λ (l : List Bool). run d w ++ l) (bits_puts w ws)
 
-some_puts : (wide d : ℕ) (ws : List ℕ) → chained wide d ws ≡ true → All (λ p. 1 ≤ p.count) (puts_from d ws)
+some_puts : (wide d : ℕ) (ws : List ℕ) → chained wide d ws ≡ true → AllByRecursion (λ p. 1 ≤ p.count) (puts_from d ws)
 some_puts wide d [] e = tt
 some_puts wide d (w ∷ ws) e =
     let p = and_parts (follows wide d w) (chained wide w ws) e in

@@ -1,7 +1,7 @@
 -- The words of a store that keeps its puts. Put t of a row, from 0, fills the row's word t with e * 2^32 + z, where e is
 -- the row's length after the put and z its number of 0 bits then. All else is 0.
 use Rattle.std.specs.Prelude.{◌≡◌, ℕ, ◌+◌, ◌-◌, ◌*◌, ◌/◌, ◌%◌, ◌<◌, ◌≤◌, Bool, true, ◌&&◌, ◌||◌, List, [], ◌∷◌, ◌++◌, length, take, drop, replicate, ◌==◌, nat_le, nat_lt, slice_set}
-use Rattle.std.specs.List.{AllByRecursion as All}
+use Rattle.std.specs.List.{AllByRecursion}
 use Rattle.rows.specs.declared.room.Room.{Room}
 use Rattle.rows.specs.Meaning.{Row, row_at, zeros_in, longer, zeroed}
 
@@ -32,7 +32,7 @@ put_words bs (p ∷ ps) = put_word (bs ++ replicate p.count p.bit) ∷ put_words
 -- the `most` words of a row are those of its puts, and then 0
 pub record WordsOfPuts (most : ℕ) (r : Row) (ws : List ℕ) : Type 0 where
   pub puts : List Put
-  pub some : All (λ p. 1 ≤ p.count) puts
+  pub some : AllByRecursion (λ p. 1 ≤ p.count) puts
   pub many : length puts ≡ r.puts
   pub bits : put_bits puts ≡ r.bits
   pub words : ws ≡ put_words [] puts ++ replicate (most - length puts) 0

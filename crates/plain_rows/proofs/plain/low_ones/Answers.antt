@@ -1,5 +1,5 @@
 use Rattle.std.proofs.Common.{◌≡◌, ℕ, ◌+◌, ◌-◌, ◌/◌, ◌^◌, ◌≤◌, sym, ap, ◌∙◌, arith}
-use lib.Pow.{ones_split, ones_lt}
+use Rattle.std.proofs.Math.Pow.{ones_split, ones_lt}
 use Rattle.std.proofs.lemmas.Nat.{shr_high}
 use Rattle.plain_rows.proofs.plain.low_ones.Goals as goal
 

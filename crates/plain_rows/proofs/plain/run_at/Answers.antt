@@ -1,5 +1,5 @@
 use Rattle.std.proofs.Common.{◌-◌, ◌^◌, arith}
-use lib.Pow.{ones_lt}
+use Rattle.std.proofs.Math.Pow.{ones_lt}
 use Rattle.std.proofs.lemmas.Nat.{shl_whole}
 use Rattle.plain_rows.proofs.plain.run_at.Goals as goal
 

@@ -7,7 +7,7 @@ pub invariant_of-result : goal.invariant_of-result
 invariant_of-result c =
     let room = c.granted_room-room.result in
     let g = sound_wiped room room c.args.words.now c.wipe.new.words _ _ (search rules) (search rules) (search rules) refl c.wipe.ensures refl refl in
-    (g.few, (g.narrow, (g.enough, (g.eight, (g.within, (g.ok, tt))))))
+    record { few = g.few; narrow = g.narrow; enough = g.enough; eight = g.eight; within = g.within; ok = g.ok }
 
 pub returns : goal.returns
 unfolding plain_rows bits_of

@@ -43,7 +43,7 @@ invariant_of-self c =
     let r = sound_put (fields s.room s.words.now s.lengths s.taken) c.args.row c.args.bit c.args.count (sound s) c.requires.low c.requires.taken
     (fields t.room t.words.now t.lengths t.taken) a.sound long u.room u.words.now u.lengths u.taken
     n.room (ap (λ w. w.now) n.words) n.lengths n.taken in
-    (r.few, (r.narrow, (r.enough, (r.eight, (r.within, (r.ok, tt))))))
+    record { few = r.few; narrow = r.narrow; enough = r.enough; eight = r.eight; within = r.within; ok = r.ok }
 
 pub returns : goal.returns
 returns c =
@@ -63,5 +63,5 @@ returns c =
       words = words_after (fields s.room s.words.now s.lengths s.taken) c.args.row c.args.bit c.args.count (sound s) c.requires.low c.requires.taken
           (fields t.room t.words.now t.lengths t.taken) a.sound long u.room u.words.now u.lengths u.taken
           n.room (ap (λ w. w.now) n.words) n.lengths n.taken;
-      place = ap (λ w. w.name) n.words ∙ a.place ∙ ap (λ (x : PlainRows). x.words.ghost_name) v;
+      place = ap (λ w. w.ghost_name) n.words ∙ a.place ∙ ap (λ (x : PlainRows). x.words.ghost_name) v;
     }

@@ -12,7 +12,7 @@ invariant_of-self c =
     let v = c.replace-words.ensures.value in
     let g = sound_wiped s.room t.room s.words.now t.words.now t.lengths t.taken s.few s.narrow s.enough
     (w.room ∙ ap (λ (x : PlainRows). x.room) v) (w.words ∙ ap (λ (x : PlainRows). plain_wiped x.room x.words.now) v) w.lengths w.taken in
-    (g.few, (g.narrow, (g.enough, (g.eight, (g.within, (g.ok, tt))))))
+    record { few = g.few; narrow = g.narrow; enough = g.enough; eight = g.eight; within = g.within; ok = g.ok }
 
 pub returns : goal.returns
 returns c =

@@ -8,7 +8,7 @@ use Rattle.std.proofs.lemmas.List.{ext_get_or, get_or-take, get_or-drop, length-
 use Rattle.std.proofs.lemmas.Bool.{cases_lt, cases_eq, lt-ltb, le-ltb, le-leb, lt-leb}
 use Rattle.rows.specs.Meaning.{zeros_in}
 use Rattle.plain_rows.specs.PlainSound.{length-bits}
-use Rattle.rows.specs.Fronts.{take_parts}
+use Rattle.std.proofs.Math.Seq.{take-add}
 use Rattle.rows.specs.ZeroCounts.{zeros-cons, zeros-++}
 use Rattle.plain_rows.specs.PlainWords.{value, word, zeros_before, coded, bit_at, bits_of}
 
@@ -102,7 +102,7 @@ zeros_from bs m k p e h l =
     let t : take k (take 64 r) ≡ take k r = take-take k 64 r h in
     let v : ones (value (take k r)) ≡ ones (word bs m % 2 ^ k) = ap (λ (xs : List Bool). ones (value xs)) (sym t) ∙ ap ones (value-take k (take 64 r) n64) in
     let o = ones_value (take k r) in
-    let a : zeros_in (take p bs) ≡ zeros_in (take (64 * m) bs) + zeros_in (take k r) = ap (λ (i : ℕ). zeros_in (take i bs)) e ∙ ap zeros_in (take_parts (64 * m) k bs) ∙ zeros-++ (take (64 * m) bs) (take k r) in
+    let a : zeros_in (take p bs) ≡ zeros_in (take (64 * m) bs) + zeros_in (take k r) = ap (λ (i : ℕ). zeros_in (take i bs)) e ∙ ap zeros_in (take-add (64 * m) k bs) ∙ zeros-++ (take (64 * m) bs) (take k r) in
     omega (arith, a, v, o, length-take-le k r n, before_is bs m (omega arith))
 
 -- ---- the words of a row that has grown, within one word: xs is what is added

@@ -1,4 +1,3 @@
 pub mod Refusals
 pub mod Meaning
 pub mod ZeroCounts
-pub mod Fronts

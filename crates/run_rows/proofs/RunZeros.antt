@@ -2,10 +2,11 @@
 use Rattle.std.proofs.Common.{◌≡◌, ℕ, zero, suc, ◌+◌, ◌-◌, ◌*◌, ◌<◌, ◌≤◌, min, Bool, true, cond, eqb, ◌⊎◌, List, [], ◌∷◌, ◌++◌, length, get_or, take, drop, sym, refl, ap, ◌∙◌, inl, inr, ⊎_elim, arith}
 use Rattle.std.proofs.lemmas.List.{take-append-le, take-replicate, get_or-take, get_or-drop, get_or_past, get_or_default, length-take-le, length-drop}
 use Rattle.std.proofs.lemmas.Bool.{and_parts, eq-eqb, ne_eqb}
+use Rattle.std.proofs.Math.Seq.{take-append-add}
 use Rattle.rows.specs.declared.room.Room.{Room}
 use Rattle.rows.specs.Meaning.{zeros_in, row_at}
 use Rattle.run_rows.specs.RunWords.{end_of, zeros_of, run, bits_from, last_word, chained, follows, run_rows}
-use Rattle.run_rows.specs.RunChains.{Step, step_from, length_run, filled, laid_at, rows_at}
+use Rattle.run_rows.specs.RunChains.{Step, step_from, length-run, filled, laid_at, rows_at}
 use Rattle.rows.specs.ZeroCounts.{zeros-++, zeros-run}
 use Rattle.run_rows.specs.RunLaid.{zeros_whole}
 use Rattle.run_rows.proofs.RunGood.{Good}
@@ -22,11 +23,9 @@ zeros_part wide d w n s h =
 
 -- a front that takes the whole first part
 take_past : (n : ℕ) (xs bs : List Bool) → length xs ≤ n → take n (xs ++ bs) ≡ xs ++ take (n - length xs) bs
-take_past n [] bs h = ap (λ (k : ℕ). take k bs) (omega arith)
-take_past zero (a ∷ xs) bs h = absurd (omega arith)
-take_past (suc n) (a ∷ xs) bs h =
-    let e : suc n - suc (length xs) ≡ n - length xs = omega arith in
-    ap (λ (t : List Bool). a ∷ t) (take_past n xs bs (omega arith) ∙ ap (λ (k : ℕ). xs ++ take k bs) (sym e))
+take_past n xs bs h =
+    let e : n ≡ length xs + (n - length xs) = omega arith in
+    ap (λ (k : ℕ). take k (xs ++ bs)) e ∙ take-append-add xs bs (n - length xs)
 
 -- the ends rise
 ends_rise : (wide d : ℕ) (ws : List ℕ) (k : ℕ) → chained wide d ws ≡ true → k ≤ length ws → end_of d ≤ end_of (get_or (d ∷ ws) k 0)
@@ -47,14 +46,14 @@ zeros_front wide p d [] (suc k) e h a b = absurd (omega arith)
 zeros_front wide p d (w ∷ ws) zero e h a b =
     let q = and_parts (follows wide d w) (chained wide w ws) e in
     let s = step_from wide d w q.0 in
-    let n = length_run wide d w s in
+    let n = length-run wide d w s in
     let t = take-append-le (p - end_of d) (run d w) (bits_from w ws) (omega arith) in
     let z = ap zeros_in t ∙ zeros_part wide d w (p - end_of d) s (omega (arith, a, b)) in
     omega (arith, z)
 zeros_front wide p d (w ∷ ws) (suc k) e h a b =
     let q = and_parts (follows wide d w) (chained wide w ws) e in
     let s = step_from wide d w q.0 in
-    let n = length_run wide d w s in
+    let n = length-run wide d w s in
     let m = ends_rise wide w ws k q.1 (omega arith) in
     let t = take_past (p - end_of d) (run d w) (bits_from w ws) (omega arith) in
     let r = zeros_front wide p w ws k q.1 (omega arith) a b in

@@ -24,14 +24,14 @@ step_from wide d w e =
           (or_cases (zeros_of w == zeros_of d) (zeros_of w + end_of d == zeros_of d + end_of w) b.1);
     }
 
-pub length_run : (wide d w : ℕ) → Step wide d w → length (run d w) + end_of d ≡ end_of w
-length_run wide d w s = simp length-replicate (omega (arith, s.on))
+pub length-run : (wide d w : ℕ) → Step wide d w → length (run d w) + end_of d ≡ end_of w
+length-run wide d w s = simp length-replicate (omega (arith, s.on))
 
 pub length-bits : (wide d : ℕ) (ws : List ℕ) → chained wide d ws ≡ true → length (bits_from d ws) + end_of d ≡ end_of (last_word d ws)
 length-bits wide d [] e = zero-add _
 length-bits wide d (w ∷ ws) e =
     let p = and_parts _ _ e in
-    let a = length_run wide d w (step_from wide d w p.0) in
+    let a = length-run wide d w (step_from wide d w p.0) in
     let b = length-bits wide w ws p.1 in
     let f = length-append (run d w) (bits_from w ws) in
     omega arith

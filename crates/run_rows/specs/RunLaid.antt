@@ -9,7 +9,7 @@ use Rattle.rows.specs.declared.room.Room.{Room}
 use Rattle.rows.specs.Meaning.{Row, zeros_in}
 use Rattle.run_rows.specs.RunWords.{Put, put_bits, put_word, put_words, RunsLaid, run_used, end_of, zeros_of, run, bits_from, follows, chained, blank, well_laid, run_rows}
 use Rattle.run_rows.specs.RunChains.{Step, step_from, filled, next_row, rows_at, laid_parts, laid_at}
-use Rattle.rows.specs.Fronts.{take_parts}
+use Rattle.std.proofs.Math.Seq.{take-add}
 use Rattle.rows.specs.ZeroCounts.{zeros-++, zeros-run}
 
 -- the puts that some words say, where d is the word before them
@@ -85,7 +85,7 @@ run_words_lie room ws ps enough eight ok = record {
       (omega (arith, enough, mul-suc most row, mul_comm most 8, mul-le-mul_left {m = suc row} {n = 8} most low)) in
       let fl : length f ≡ n = length-take-le n xs (omega (arith, few, long)) in
       let cut : take most xs ≡ f ++ take (most - n) (drop n xs) =
-      ap (λ (k : ℕ). take k xs) (let e : most ≡ n + (most - n) = omega (arith, few) in e) ∙ take_parts n (most - n) xs in
+      ap (λ (k : ℕ). take k xs) (let e : most ≡ n + (most - n) = omega (arith, few) in e) ∙ take-add n (most - n) xs in
       let rl : length (take (most - n) (drop n xs)) ≡ most - n = length-take-le (most - n) (drop n xs) (rw (length-drop n xs) (omega (arith, few, long))) in
       let rest : take (most - n) (drop n xs) ≡ replicate (most - n) 0 =
       blank_is (take (most - n) (drop n xs)) (rest_blank most room.bits ws ps row ok (omega (arith, eight, low))) ∙ ap (λ (k : ℕ). replicate k 0) rl in

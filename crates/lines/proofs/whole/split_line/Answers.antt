@@ -1,5 +1,5 @@
 use Rattle.std.proofs.Common.{◌≡◌, length, arith}
-use native.Mathlib.Nat.{sub-zero}
+use Rattle.std.proofs.Math.Nat.{sub-zero}
 use Rattle.std.proofs.lemmas.List.{take_rest, take_all, drop_all, length-drop}
 use Rattle.std.proofs.ByRecursion.{All-more}
 use Rattle.lines.proofs.Cutting.{first_line, only_line}

@@ -5,8 +5,8 @@ usage: python3 tools/respell.py      at the top of a repository, once, after the
 
 A name that specs/ or proofs/ declare with a dash gets underscores (`class-answer` is `class_answer`), and one with a
 capital drops them (`Cut-into` is `CutInto`). Kept are names that join two words of the library or of the repository, as
-`length-bits`. Functions of src/, strings, inputs and outputs are left alone. It stops before it writes where two names
-would fall together.
+`length-bits`. Functions of src/, strings, inputs and outputs are left alone. It stops before it writes where two of these
+names would fall together, and says where a new name stands in a file already.
 """
 import pathlib
 import re
@@ -71,7 +71,7 @@ def main():
             path.write_text(new)
     # in the documents also the names that the toolchain's script has respelt
     names = declared()
-    for path in [pathlib.Path("README.md"), *sorted(pathlib.Path("docs").glob("*.md"))]:
+    for path in [pathlib.Path("README.md"), *sorted(p for p in pathlib.Path("docs").glob("*.md") if p.name != "PORT.md")]:
         if path.is_file():
             old = path.read_text()
             new = re.sub(r"`([\w-]+)`", lambda m: f"`{pairs.get(m[1]) or (respelt(m[1]) if respelt(m[1]) in names else m[1])}`", old)

@@ -1,4 +1,4 @@
--- The block sizes of both plans keep what every plan keeps.
+-- The block sizes of both plans keep what every plan keeps; how many they are, and the largest.
 use Rattle.std.specs.Prelude.{◌≡◌, ℕ, zero, suc, ◌+◌, ◌<◌, ◌≤◌, Bool, true, List, [], ◌∷◌, ◌&&◌, length, nat_lt, slice_index, refl}
 use Rattle.std.proofs.Common.{add-one, arith, lit≤}
 use Rattle.std.proofs.lemmas.Bool.{ltb-true, and_parts}
@@ -36,3 +36,19 @@ quarters_plan = plan_from_test quarters refl (lit≤ tt) (lit≤ tt) (lit≤ tt)
 pub sixteens_plan : Plan sixteens
 unfolding sixteens
 sixteens_plan = plan_from_test sixteens refl (lit≤ tt) (lit≤ tt) (lit≤ tt) (lit≤ tt)
+
+pub quarters_length : length quarters ≡ 60
+unfolding quarters
+quarters_length = refl
+
+pub quarters_largest : largest quarters ≡ 1048576
+unfolding quarters
+quarters_largest = refl
+
+pub sixteens_length : length sixteens ≡ 256
+unfolding sixteens
+sixteens_length = refl
+
+pub sixteens_largest : largest sixteens ≡ 4096
+unfolding sixteens
+sixteens_largest = refl

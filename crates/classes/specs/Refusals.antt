@@ -1,5 +1,5 @@
--- The number of each refusal of a plan.
-use Rattle.std.specs.Prelude.{ℕ}
+-- The number of each refusal of a plan, and its text.
+use Rattle.std.specs.Prelude.{ℕ, List, ◌++◌, codes, decimal}
 use Rattle.classes.specs.declared.refusal.ClassRefusal.{ClassRefusal}
 use Rattle.classes.specs.declared.refusal.ClassRefusal.TheVariants.{ZeroRequest, AboveLargest, NoSuchClass}
 
@@ -7,3 +7,6 @@ abbrev pub class_refusal_number : ClassRefusal → ℕ
 class_refusal_number ZeroRequest = 11
 class_refusal_number AboveLargest = 12
 class_refusal_number NoSuchClass = 13
+
+abbrev pub class_refusal_text : ClassRefusal → List ℕ
+class_refusal_text e = codes "refused " ++ decimal (class_refusal_number e)

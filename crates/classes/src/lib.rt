@@ -1,6 +1,7 @@
 #![tactic(auto)]
 // Size classes: the trait that a plan of size classes keeps, and the two plans.
 mod common;
+mod formula;
 mod plan;
 mod quarters;
 mod refusal;

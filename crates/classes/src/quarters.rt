@@ -1,74 +1,49 @@
 // The plan of quarters: 60 classes, from 64 bytes on four to each doubling of the block size.
-ghost use Rattle.std.specs.Prelude.{◌≡◌, ◌+◌, ◌^◌, ◌<◌, ◌≤◌, length, slice_index};
-ghost use Rattle.classes.specs.Plan.{largest, class_of, class_answer};
+ghost use Rattle.std.specs.Prelude.{◌≡◌, ◌<◌, ◌≤◌, slice_index};
+ghost use Rattle.classes.specs.Plan.{class_of};
 ghost use Rattle.classes.specs.Quarters.{quarters};
-ghost use Rattle.classes.specs.Lawful.{quarters_plan};
+ghost use Rattle.classes.specs.Lawful.{quarters_length, quarters_largest, quarters_plan};
 
-use crate::common::{admitted, known, sixteens_block, sixteenth};
-use crate::plan::SizeClasses;
-use crate::refusal::ClassRefusal;
+use crate::common::{sixteens_block, sixteenth};
+use crate::formula::Formula;
 
 #[derive(Clone, Copy)]
 pub struct Quarters;
 
-impl SizeClasses for Quarters {
-    ghost blocks = { λ _. quarters };
+impl Formula for Quarters {
+    ghost listed = { quarters };
 
-    ghost lawful = { λ _. quarters_plan };
+    ghost CLASSES = { 60 };
 
-    fn classes(&self) -> u32 {
-        class_count()
+    const CLASSES: u32 = 60;
+
+    ghost LARGEST_REQUEST = { 1048576 };
+
+    const LARGEST_REQUEST: u32 = 1_048_576;
+
+    #[tactic(auto, using(crate::proofs::QuartersBlocks::quarters_low_class))]
+    fn class(bytes: u32) -> u32 {
+        if bytes <= 64 {
+            sixteenth(bytes)
+        } else {
+            high_class(bytes)
+        }
     }
 
-    fn class_of(&self, bytes: u32) -> Result<u32, ClassRefusal> {
-        lowest_class(bytes)
+    #[tactic(auto, using(crate::proofs::QuartersBlocks::quarters_low))]
+    fn block(class: u32) -> u32 {
+        if class < 4 {
+            sixteens_block(class)
+        } else {
+            high_block(class)
+        }
     }
 
-    fn block_size(&self, class: u32) -> Result<u32, ClassRefusal> {
-        let class = known(class, class_count())?;
-        Ok(block(class))
-    }
-}
+    ghost counted = { quarters_length };
 
-fn lowest_class(bytes: u32) -> Result<u32, ClassRefusal>
-    ensures { result ≡ class_answer quarters bytes }
-{
-    let bytes = admitted(bytes, largest_request())?;
-    Ok(class(bytes))
-}
+    ghost last_block = { quarters_largest };
 
-fn class_count() -> u32
-    ensures value { result ≡ 60 }
-    ensures listed { result ≡ length quarters }
-{
-    60
-}
-
-fn largest_request() -> u32
-    ensures value { result ≡ 1048576 }
-    ensures listed { result ≡ largest quarters }
-{
-    1_048_576
-}
-
-fn class(bytes: u32) -> u32
-    requires some { 1 ≤ bytes }
-    requires small { bytes ≤ 1048576 }
-    ensures { result ≡ class_of quarters bytes }
-{
-    if bytes <= 64 {
-        low_class(bytes)
-    } else {
-        high_class(bytes)
-    }
-}
-
-fn low_class(bytes: u32) -> u32
-    requires some { 1 ≤ bytes }
-    requires small { bytes ≤ 64 }
-    ensures { result ≡ class_of quarters bytes }
-{
-    sixteenth(bytes)
+    ghost plan = { quarters_plan };
 }
 
 // From the highest bit of the number below the request, and the two bits that follow it.
@@ -78,40 +53,12 @@ fn high_class(bytes: u32) -> u32
     ensures { result ≡ class_of quarters bytes }
 {
     let below = bytes - 1;
-    let top = top_bit(below);
+    let top = below.ilog2();
     4 * (top - 6) + (below >> (top - 2))
 }
 
-// The place of the highest bit.
-fn top_bit(number: u32) -> u32
-    requires above { 64 ≤ number }
-    requires small { number < 2 ^ 20 }
-    ensures low { 6 ≤ result }
-    ensures high { result ≤ 19 }
-    ensures over { 2 ^ result ≤ number }
-    ensures under { number < 2 ^ (result + 1) }
-{
-    31 - number.leading_zeros()
-}
-
-fn block(class: u32) -> u32
-    requires { class < 60 }
-    ensures { result ≡ slice_index quarters class }
-{
-    if class < 4 {
-        low_block(class)
-    } else {
-        high_block(class)
-    }
-}
-
-fn low_block(class: u32) -> u32
-    requires { class < 4 }
-    ensures { result ≡ slice_index quarters class }
-{
-    sixteens_block(class)
-}
-
+// The doubling of 64 below the block, in quarters, and the quarters above it.
+#[tactic(auto, using(crate::proofs::QuartersBlocks::quarters_high))]
 fn high_block(class: u32) -> u32
     requires above { 4 ≤ class }
     requires small { class < 60 }
@@ -119,5 +66,5 @@ fn high_block(class: u32) -> u32
 {
     let doubling = (class - 4) / 4;
     let quarter = (class - 4) % 4 + 1;
-    (1 << (6 + doubling)) + (quarter << (4 + doubling))
+    (4 + quarter) << (4 + doubling)
 }

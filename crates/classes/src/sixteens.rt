@@ -1,67 +1,37 @@
 // The plan of sixteens: 256 classes, each block 16 bytes larger than the one before.
-ghost use Rattle.std.specs.Prelude.{◌≡◌, ◌<◌, ◌≤◌, length, slice_index};
-ghost use Rattle.classes.specs.Plan.{largest, class_of, class_answer};
 ghost use Rattle.classes.specs.Sixteens.{sixteens};
-ghost use Rattle.classes.specs.Lawful.{sixteens_plan};
+ghost use Rattle.classes.specs.Lawful.{sixteens_length, sixteens_largest, sixteens_plan};
 
-use crate::common::{admitted, known, sixteens_block, sixteenth};
-use crate::plan::SizeClasses;
-use crate::refusal::ClassRefusal;
+use crate::common::{sixteens_block, sixteenth};
+use crate::formula::Formula;
 
 #[derive(Clone, Copy)]
 pub struct Sixteens;
 
-impl SizeClasses for Sixteens {
-    ghost blocks = { λ _. sixteens };
+impl Formula for Sixteens {
+    ghost listed = { sixteens };
 
-    ghost lawful = { λ _. sixteens_plan };
+    ghost CLASSES = { 256 };
 
-    fn classes(&self) -> u32 {
-        class_count()
+    const CLASSES: u32 = 256;
+
+    ghost LARGEST_REQUEST = { 4096 };
+
+    const LARGEST_REQUEST: u32 = 4_096;
+
+    #[tactic(auto, using(crate::proofs::SixteensBlocks::sixteens_class))]
+    fn class(bytes: u32) -> u32 {
+        sixteenth(bytes)
     }
 
-    fn class_of(&self, bytes: u32) -> Result<u32, ClassRefusal> {
-        lowest_class(bytes)
+    #[tactic(auto, using(crate::proofs::SixteensBlocks::sixteens_at))]
+    fn block(class: u32) -> u32 {
+        sixteens_block(class)
     }
 
-    fn block_size(&self, class: u32) -> Result<u32, ClassRefusal> {
-        let class = known(class, class_count())?;
-        Ok(block(class))
-    }
-}
+    ghost counted = { sixteens_length };
 
-fn lowest_class(bytes: u32) -> Result<u32, ClassRefusal>
-    ensures { result ≡ class_answer sixteens bytes }
-{
-    let bytes = admitted(bytes, largest_request())?;
-    Ok(class(bytes))
-}
+    ghost last_block = { sixteens_largest };
 
-fn class_count() -> u32
-    ensures value { result ≡ 256 }
-    ensures listed { result ≡ length sixteens }
-{
-    256
-}
-
-fn largest_request() -> u32
-    ensures value { result ≡ 4096 }
-    ensures listed { result ≡ largest sixteens }
-{
-    4_096
-}
-
-fn class(bytes: u32) -> u32
-    requires some { 1 ≤ bytes }
-    requires small { bytes ≤ 4096 }
-    ensures { result ≡ class_of sixteens bytes }
-{
-    sixteenth(bytes)
-}
-
-fn block(class: u32) -> u32
-    requires { class < 256 }
-    ensures { result ≡ slice_index sixteens class }
-{
-    sixteens_block(class)
+    ghost plan = { sixteens_plan };
 }

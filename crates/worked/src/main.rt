@@ -21,32 +21,32 @@ const EDGES: [(u32, u32); 10] = [
 const COUNTED: [(u32, u32); 4] = [(33, 2), (5, 1), (200, 3), (48, 4)];
 
 // A request's class and block, and what so many such requests consume: a whole block for each.
-#[derive(Drop)]
+#[derive(Clone, Copy, Debug, PartialEq, Eq)]
 struct Served {
     class: u32,
     block: u32,
     consumed: u64,
 }
 
-#[derive(Drop)]
-enum Said {
-    Served(Served),
-    Refused(ClassRefusal),
+impl fmt::Display for Served {
+    fn fmt<W: fmt::Write>(&self, f: &mut fmt::Formatter<W>) -> fmt::Result {
+        write!(
+            f,
+            "class {}, block {}, consumed {}",
+            self.class, self.block, self.consumed
+        )
+    }
 }
+
+// What is printed of a request: how it is served, or its refusal.
+#[derive(Drop)]
+struct Said(Result<Served, ClassRefusal>);
 
 impl fmt::Display for Said {
     fn fmt<W: fmt::Write>(&self, f: &mut fmt::Formatter<W>) -> fmt::Result {
-        match self {
-            Said::Served(served) => {
-                let class = served.class;
-                let block = served.block;
-                let consumed = served.consumed;
-                write!(f, "class {class}, block {block}, consumed {consumed}")
-            }
-            Said::Refused(refusal) => {
-                let number = refusal.number();
-                write!(f, "refused {number}")
-            }
+        match self.0 {
+            Ok(served) => write!(f, "{served}"),
+            Err(refusal) => write!(f, "{refusal}"),
         }
     }
 }
@@ -56,12 +56,9 @@ fn search<P: SizeClasses>(plan: &P, bytes: u32) -> Result<u32, ClassRefusal> {
     if bytes == 0 {
         return Err(ClassRefusal::ZeroRequest);
     }
-    for class in 0..plan.classes() {
-        if plan.block_size(class)? >= bytes {
-            return Ok(class);
-        }
-    }
-    Err(ClassRefusal::AboveLargest)
+    (0..plan.classes())
+        .find(|class| plan.block_size(*class).is_ok_and(|block| block >= bytes))
+        .ok_or(ClassRefusal::AboveLargest)
 }
 
 fn serve<P: SizeClasses>(
@@ -78,80 +75,84 @@ fn serve<P: SizeClasses>(
     })
 }
 
-fn say<P: SizeClasses>(plan: &P, found: Result<u32, ClassRefusal>, count: u32) -> Said {
-    match serve(plan, found, count) {
-        Ok(served) => Said::Served(served),
-        Err(refusal) => Said::Refused(refusal),
+// What the counted requests consume together, each in the class that is found for it.
+fn total<P: SizeClasses, F: Fn(u32) -> Result<u32, ClassRefusal>>(
+    plan: &P,
+    find: F,
+) -> Result<u64, ClassRefusal>
+    requires { F.IsAlwaysCallable find }
+{
+    COUNTED.iter().try_fold(0u64, |sum, (bytes, count)| {
+        let served = serve(plan, find(*bytes), *count)?;
+        Ok(sum.saturating_add(served.consumed))
+    })
+}
+
+// A plan, its name, and what the cases are printed with.
+#[derive(Drop)]
+struct Cases<'a, P> {
+    rt: &'a HostRuntime,
+    plan: &'a P,
+    name: &'a str,
+}
+
+impl<P: SizeClasses> Cases<'_, P> {
+    fn print_request(&self, bytes: u32, count: u32) -> io::Result<()> {
+        let name = self.name;
+        let by_library = Said(serve(self.plan, self.plan.class_of(bytes), count));
+        let by_search = Said(serve(self.plan, search(self.plan, bytes), count));
+        println!(self.rt; "{name}: {count} x {bytes} bytes: {by_library}; by search {by_search}")
     }
-}
 
-fn print_request<P: SizeClasses>(
-    rt: &HostRuntime,
-    plan: &P,
-    name: &str,
-    bytes: u32,
-    count: u32,
-) -> io::Result<()> {
-    let by_library = say(plan, plan.class_of(bytes), count);
-    let by_search = say(plan, search(plan, bytes), count);
-    println!(rt; "{name}: {count} x {bytes} bytes: {by_library}; by search {by_search}")
-}
-
-fn print_class<P: SizeClasses>(
-    rt: &HostRuntime,
-    plan: &P,
-    name: &str,
-    class: u32,
-) -> io::Result<()> {
-    match plan.block_size(class) {
-        Ok(block) => println!(rt; "{name}: class {class}: block {block}"),
-        Err(refusal) => {
-            let number = refusal.number();
-            println!(rt; "{name}: class {class}: refused {number}")
+    fn print_class(&self, class: u32) -> io::Result<()> {
+        let name = self.name;
+        match self.plan.block_size(class) {
+            Ok(block) => println!(self.rt; "{name}: class {class}: block {block}"),
+            Err(refusal) => println!(self.rt; "{name}: class {class}: {refusal}"),
         }
     }
-}
 
-// What the counted requests consume together.
-fn total<P: SizeClasses>(plan: &P, by_search: bool) -> Result<u64, ClassRefusal> {
-    let mut sum = 0u64;
-    for (bytes, count) in COUNTED.iter() {
-        let found = if by_search {
-            search(plan, *bytes)
-        } else {
-            plan.class_of(*bytes)
-        };
-        sum = sum.saturating_add(serve(plan, found, *count)?.consumed);
+    fn print_total(&self) -> io::Result<()> {
+        let name = self.name;
+        let by_library = total(self.plan, |bytes| self.plan.class_of(bytes));
+        let by_search = total(self.plan, |bytes| search(self.plan, bytes));
+        match (by_library, by_search) {
+            (Ok(sum), Ok(by_search)) => println!(self.rt;
+                "{name}: consumed {sum} in all; by search {by_search}"
+            ),
+            _ => println!(self.rt; "{name}: a request was refused"),
+        }
     }
-    Ok(sum)
-}
 
-fn print_total<P: SizeClasses>(rt: &HostRuntime, plan: &P, name: &str) -> io::Result<()> {
-    match (total(plan, false), total(plan, true)) {
-        (Ok(sum), Ok(by_search)) => println!(rt;
-            "{name}: consumed {sum} in all; by search {by_search}"
-        ),
-        _ => println!(rt; "{name}: a request was refused"),
+    fn print(&self) -> io::Result<()> {
+        let name = self.name;
+        let classes = self.plan.classes();
+        println!(self.rt; "{name}: {classes} classes")?;
+        for (bytes, count) in EDGES {
+            self.print_request(bytes, count)?;
+        }
+        self.print_class(classes.saturating_sub(1))?;
+        self.print_class(classes)?;
+        for (bytes, count) in COUNTED {
+            self.print_request(bytes, count)?;
+        }
+        self.print_total()
     }
-}
-
-fn print_plan<P: SizeClasses>(rt: &HostRuntime, plan: &P, name: &str) -> io::Result<()> {
-    let classes = plan.classes();
-    println!(rt; "{name}: {classes} classes")?;
-    for (bytes, count) in EDGES.iter() {
-        print_request(rt, plan, name, *bytes, *count)?;
-    }
-    print_class(rt, plan, name, classes.saturating_sub(1))?;
-    print_class(rt, plan, name, classes)?;
-    for (bytes, count) in COUNTED.iter() {
-        print_request(rt, plan, name, *bytes, *count)?;
-    }
-    print_total(rt, plan, name)
 }
 
 fn main(rt: HostRuntime) -> io::Result<()> {
-    print_plan(&rt, &Sixteens, "sixteens")?;
-    print_plan(&rt, &Quarters, "quarters")
+    let sixteens = Cases {
+        rt: &rt,
+        plan: &Sixteens,
+        name: "sixteens",
+    };
+    let quarters = Cases {
+        rt: &rt,
+        plan: &Quarters,
+        name: "quarters",
+    };
+    sixteens.print()?;
+    quarters.print()
 }
 
 #[cfg(test)]
@@ -183,16 +184,15 @@ mod tests {
 
     // the class, the block, and what two such requests consume
     fn are<P: SizeClasses>(rt: &impl Abort, plan: &P, cases: &[(u32, u32, u32)]) {
-        for (bytes, class, block) in cases {
-            match serve(plan, plan.class_of(*bytes), 2) {
-                Ok(found) => {
-                    assert_eq!(rt; found.class, *class);
-                    assert_eq!(rt; found.block, *block);
-                    assert_eq!(rt; found.consumed, 2 * u64::from(*block));
-                }
-                Err(_) => assert!(rt; false),
-            }
-            same(rt, plan, *bytes);
+        for &(bytes, class, block) in cases {
+            let consumed = 2 * u64::from(block);
+            let served = Served {
+                class,
+                block,
+                consumed,
+            };
+            assert_eq!(rt; serve(plan, plan.class_of(bytes), 2), Ok(served));
+            same(rt, plan, bytes);
         }
     }
 
@@ -204,35 +204,23 @@ mod tests {
 
     #[test]
     fn totals(rt: HostRuntime) {
-        assert_eq!(rt; total(&Sixteens, false), Ok(928));
-        assert_eq!(rt; total(&Sixteens, true), Ok(928));
-        assert_eq!(rt; total(&Quarters, false), Ok(976));
-        assert_eq!(rt; total(&Quarters, true), Ok(976));
-    }
-
-    fn refused(rt: &impl Abort, found: Result<u32, ClassRefusal>, number: u32) -> Result<(), Fail> {
-        match found {
-            Ok(_) => {
-                assert!(rt; false);
-                Ok(())
-            },
-            Err(refusal) => {
-                assert_eq!(rt; refusal.number(), number);
-                Ok(())
-            },
-        }
+        assert_eq!(rt; total(&Sixteens, |bytes| Sixteens.class_of(bytes)), Ok(928));
+        assert_eq!(rt; total(&Sixteens, |bytes| search(&Sixteens, bytes)), Ok(928));
+        assert_eq!(rt; total(&Quarters, |bytes| Quarters.class_of(bytes)), Ok(976));
+        assert_eq!(rt; total(&Quarters, |bytes| search(&Quarters, bytes)), Ok(976));
     }
 
     #[test]
-    fn refusals(rt: HostRuntime) -> Result<(), Fail> {
-        refused(&rt, Sixteens.class_of(0), 11)?;
-        refused(&rt, Quarters.class_of(0), 11)?;
-        refused(&rt, Sixteens.class_of(4_097), 12)?;
-        refused(&rt, Quarters.class_of(1_048_577), 12)?;
-        refused(&rt, Quarters.class_of(u32::MAX), 12)?;
-        refused(&rt, Sixteens.block_size(256), 13)?;
-        refused(&rt, Quarters.block_size(60), 13)?;
-        refused(&rt, Quarters.block_size(u32::MAX), 13)
+    fn refusals(rt: HostRuntime) {
+        let number = ClassRefusal::number;
+        assert_eq!(rt; Sixteens.class_of(0).map_err(number), Err(11));
+        assert_eq!(rt; Quarters.class_of(0).map_err(number), Err(11));
+        assert_eq!(rt; Sixteens.class_of(4_097).map_err(number), Err(12));
+        assert_eq!(rt; Quarters.class_of(1_048_577).map_err(number), Err(12));
+        assert_eq!(rt; Quarters.class_of(u32::MAX).map_err(number), Err(12));
+        assert_eq!(rt; Sixteens.block_size(256).map_err(number), Err(13));
+        assert_eq!(rt; Quarters.block_size(60).map_err(number), Err(13));
+        assert_eq!(rt; Quarters.block_size(u32::MAX).map_err(number), Err(13));
     }
 
     #[test]
@@ -243,16 +231,13 @@ mod tests {
     }
 
     #[test]
-    fn every_edge_in_quarters(rt: HostRuntime) {
+    fn every_edge_in_quarters(rt: HostRuntime) -> Result<(), Fail> {
         for class in 0..60 {
-            match Quarters.block_size(class) {
-                Ok(block) => {
-                    same(&rt, &Quarters, block);
-                    same(&rt, &Quarters, block.saturating_add(1));
-                    same(&rt, &Quarters, block.saturating_sub(1));
-                }
-                Err(_) => assert!(rt; false),
-            }
+            let block = Quarters.block_size(class)?;
+            same(&rt, &Quarters, block);
+            same(&rt, &Quarters, block.saturating_add(1));
+            same(&rt, &Quarters, block.saturating_sub(1));
         }
+        Ok(())
     }
 }

@@ -6,7 +6,7 @@ ghost use Rattle.plain_rows.specs.PlainWords.{plain_used, plain_wiped, plain_wro
 ghost use Rattle.compare_rows.specs.Appending.{appended, appended_words};
 
 use plain_rows::PlainRows;
-use rows::{BitRows, Room, RowsRefusal};
+use rows::{BitRows, LentRows, Room, RowsRefusal};
 use run_rows::RunRows;
 
 // So many copies of a bit.
@@ -44,7 +44,22 @@ pub fn rewrite<S: BitRows>(rows: &mut S, row: u32, runs: &[Run]) -> Result<(), R
     append(rows, row, runs)
 }
 
-// Makes a store of puts over these words and puts the runs into it; the words then hold what the contract says.
+// Makes a store over these words, puts one run after the other into it, and gives the words back, with what they then hold.
+pub fn words_after<'a, S: LentRows<'a>>(
+    room: Room,
+    words: &'a mut [u64],
+    row: u32,
+    runs: &[Run],
+) -> &'a mut [u64]
+    ensures words { result.now ≡ appended_words S.wrote (granted S.uses room (length words.old)) row cleared (S.wiped (granted S.uses room (length words.old)) words.old) runs.now }
+    ensures place { result.ghost_name ≡ words.entry.ghost_name }
+{
+    let mut rows = S::new(room, words);
+    let _ = append(&mut rows, row, runs);
+    rows.into_words()
+}
+
+// What the words hold when a store has been dropped is known of a store by its name alone, so this and the next are two.
 pub fn run_words(room: Room, words: &mut [u64], row: u32, runs: &[Run])
     ensures { words.new ≡ appended_words run_wrote (granted run_used room (length words.old)) row cleared (run_wiped (granted run_used room (length words.old)) words.old) runs.now }
 {
@@ -52,7 +67,6 @@ pub fn run_words(room: Room, words: &mut [u64], row: u32, runs: &[Run])
     let _ = append(&mut rows, row, runs);
 }
 
-// The same with a store of bits.
 pub fn plain_words(room: Room, words: &mut [u64], row: u32, runs: &[Run])
     ensures { words.new ≡ appended_words plain_wrote (granted plain_used room (length words.old)) row cleared (plain_wiped (granted plain_used room (length words.old)) words.old) runs.now }
 {

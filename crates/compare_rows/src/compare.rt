@@ -1,126 +1,108 @@
 // Seeded calls to two stores and to plain lists of bits, and whether their answers are alike.
-use crate::listed::{Listed, Said};
-use rows::{BitRows, RowsRefusal};
+use crate::listed::Listed;
+use rows::{BitRows, Room, RowsRefusal};
+use std::alloc::{AllocError, Global};
+use std::collections::BTreeSet;
+use std::fmt;
 
-// How many answers were compared, and how many differed; which refusals came, from 23 on; and whether some row was full,
-// and some a whole number of words long.
-#[derive(Clone, Copy)]
+pub fn said(yes: bool) -> &'static str {
+    if yes { "yes" } else { "no" }
+}
+
+// How many answers were compared, and how many differed; the numbers of the refusals that came; and whether some row
+// was full, and some a whole number of words long.
+#[derive(Drop)]
 pub struct Seen {
-    pub answers: u32,
-    pub differ: u32,
-    refused: [bool; 5],
-    pub full: bool,
-    pub whole: bool,
+    answers: u32,
+    differ: u32,
+    refusals: BTreeSet<u32>,
+    full: bool,
+    whole: bool,
 }
 
 impl Seen {
-    pub fn none() -> Seen {
+    fn nothing(heap: Global) -> Seen {
         Seen {
             answers: 0,
             differ: 0,
-            refused: [false; 5],
+            refusals: BTreeSet::new(heap),
             full: false,
             whole: false,
         }
     }
 
-    // How many of the five refusals came.
-    pub fn refusals(&self) -> u32 {
-        let mut n = 0u32;
-        for came in self.refused.iter() {
-            if *came {
-                n = n.saturating_add(1);
-            }
-        }
-        n
-    }
-
-    fn note(&mut self, a: Said, b: Said, listed: Said) {
+    // The answers of the two stores and of the lists to one call.
+    fn note<T: PartialEq + Drop>(
+        &mut self,
+        first: Result<T, RowsRefusal>,
+        second: Result<T, RowsRefusal>,
+        listed: Result<T, RowsRefusal>,
+    ) -> Result<(), AllocError> {
         self.answers = self.answers.saturating_add(1);
-        if a != listed || b != listed {
+        if first != listed || second != listed {
             self.differ = self.differ.saturating_add(1);
         }
-        if let Err(number) = listed {
-            if number >= 23 && number <= 27 {
-                self.refused[(number - 23) as usize] = true;
-            }
+        if let Err(refusal) = listed {
+            self.refusals.insert(refusal.number())?;
         }
+        Ok(())
+    }
+
+    // The length of a row with this room.
+    fn note_length(&mut self, length: u32, room: Room) {
+        self.full = self.full || length > 0 && length == room.bits;
+        self.whole = self.whole || length > 0 && length % 64 == 0;
     }
 }
 
-// A step of a congruential generator, and a number below `below` from its upper bits.
-fn step(state: u64) -> u64 {
-    state
-        .wrapping_mul(6_364_136_223_846_793_005)
-        .wrapping_add(1_442_695_040_888_963_407)
+impl fmt::Display for Seen {
+    fn fmt<W: fmt::Write>(&self, f: &mut fmt::Formatter<W>) -> fmt::Result {
+        let answers = self.answers;
+        let differ = self.differ;
+        let refusals = self.refusals.len();
+        let full = said(self.full);
+        let whole = said(self.whole);
+        write!(
+            f,
+            "{answers} answers, {differ} differ, {refusals} refusals of 5, full rows {full}, whole words {whole}"
+        )
+    }
 }
 
-fn pick(state: u64, below: u32) -> u32 {
-    if below == 0 {
+// A number below `bound` from the upper bits of a drawn one, or 0 where there is none.
+fn pick(drawn: u64, bound: u32) -> u32 {
+    if bound == 0 {
         return 0;
     }
-    ((state / 8_589_934_592) % u64::from(below)) as u32
+    // below a u32: `u32::try_from` would add a case that never comes
+    ((drawn >> 33) % u64::from(bound)) as u32
 }
 
-fn done(answer: Result<(), RowsRefusal>) -> Said {
-    match answer {
-        Ok(()) => Ok(0),
-        Err(refusal) => Err(refusal.number()),
+// A congruential generator.
+#[derive(Drop)]
+struct Random {
+    state: u64,
+}
+
+impl Random {
+    fn draw(&mut self) -> u64 {
+        self.state = self
+            .state
+            .wrapping_mul(6_364_136_223_846_793_005)
+            .wrapping_add(1_442_695_040_888_963_407);
+        self.state
     }
-}
 
-fn told(answer: Result<u32, RowsRefusal>) -> Said {
-    match answer {
-        Ok(n) => Ok(n),
-        Err(refusal) => Err(refusal.number()),
+    fn below(&mut self, bound: u32) -> u32 {
+        pick(self.draw(), bound)
     }
-}
 
-// How many bits to put: none, up to the next multiple of 64, just enough to fill the row, one too many, or some.
-fn bits_to_put(kind: u32, size: u32, most: u32, some: u32) -> u32 {
-    match kind {
-        0 => 0,
-        1 => 64 - size % 64,
-        2 => most.saturating_sub(size),
-        3 => most.saturating_sub(size).saturating_add(1),
-        _ => some.saturating_add(1),
+    // Draws so many numbers that go unused.
+    fn skip(&mut self, count: u32) {
+        for _ in 0..count {
+            self.draw();
+        }
     }
-}
-
-fn ask<A: BitRows, B: BitRows>(
-    a: &A,
-    b: &B,
-    listed: &Listed,
-    seen: &mut Seen,
-    row: u32,
-    position: u32,
-) {
-    seen.note(
-        told(a.zeros(row, position)),
-        told(b.zeros(row, position)),
-        listed.zeros(row, position),
-    );
-}
-
-// The length of a row, and the zeros at its start, at its end and past it, at a multiple of 64 and somewhere.
-fn ask_all<A: BitRows, B: BitRows>(
-    a: &A,
-    b: &B,
-    listed: &Listed,
-    seen: &mut Seen,
-    row: u32,
-    somewhere: u64,
-) {
-    let size = listed.length(row).unwrap_or(0);
-    seen.full = seen.full || size > 0 && size == a.room().bits;
-    seen.whole = seen.whole || size > 0 && size % 64 == 0;
-    let position = pick(somewhere, size.saturating_add(1));
-    seen.note(told(a.length(row)), told(b.length(row)), listed.length(row));
-    ask(a, b, listed, seen, row, 0);
-    ask(a, b, listed, seen, row, size);
-    ask(a, b, listed, seen, row, size.saturating_add(1));
-    ask(a, b, listed, seen, row, position / 64 * 64);
-    ask(a, b, listed, seen, row, position);
 }
 
 // What the puts are like: of at most so many bits, but one in so many of each special kind.
@@ -130,66 +112,144 @@ pub struct Puts {
     pub rare: u32,
 }
 
-// One put, mostly to row 3, and then the questions on its row and on another; now and then a clear before it.
-fn turn<A: BitRows, B: BitRows>(
-    a: &mut A,
-    b: &mut B,
-    listed: &mut Listed,
-    seen: &mut Seen,
-    state: u64,
-    puts: Puts,
-) {
-    let second = step(state);
-    let third = step(second);
-    let fourth = step(third);
-    let fifth = step(fourth);
-    let sixth = step(fifth);
-    let room = a.room();
-    if pick(state, room.puts.saturating_mul(4).saturating_add(16)) == 0 {
-        a.clear();
-        b.clear();
-        listed.clear();
-    }
-    let row = if pick(second, 4) == 0 {
-        pick(third, 9)
-    } else {
-        3
-    };
-    let bit = pick(fourth, 2) == 1;
-    let size = listed.length(row).unwrap_or(0);
-    let count = bits_to_put(
-        pick(fifth, puts.rare),
-        size,
-        room.bits,
-        pick(sixth, puts.most),
-    );
-    seen.note(
-        done(a.put(row, bit, count)),
-        done(b.put(row, bit, count)),
-        listed.put(row, bit, count),
-    );
-    let seventh = step(sixth);
-    let eighth = step(seventh);
-    ask_all(a, b, listed, seen, row, seventh);
-    ask_all(a, b, listed, seen, pick(seventh, 8), eighth);
+// The special kinds of puts, and the others, of so many bits.
+enum Kind {
+    // of no bit
+    Empty,
+    // up to the next multiple of 64
+    WholeWords,
+    // just enough to fill the row
+    Filling,
+    // one bit too many
+    TooLong,
+    Other(u32),
 }
 
-// So many turns.
-pub fn compare<A: BitRows, B: BitRows>(
-    a: &mut A,
-    b: &mut B,
-    listed: &mut Listed,
-    seed: u64,
-    turns: u32,
-    puts: Puts,
-) -> Seen {
-    let mut seen = Seen::none();
-    let mut state = seed;
-    for _ in 0..turns {
-        for _ in 0..9 {
-            state = step(state);
+impl Kind {
+    // The special kind of a drawn number, or one of `other` bits.
+    fn drawn(number: u32, other: u32) -> Kind {
+        match number {
+            0 => Kind::Empty,
+            1 => Kind::WholeWords,
+            2 => Kind::Filling,
+            3 => Kind::TooLong,
+            _ => Kind::Other(other),
         }
-        turn(a, b, listed, &mut seen, state, puts);
     }
-    seen
+
+    // How many bits to put into a row of this length.
+    fn bits(self, length: u32, room: Room) -> u32 {
+        let left = room.bits.saturating_sub(length);
+        match self {
+            Kind::Empty => 0,
+            Kind::WholeWords => 64 - length % 64,
+            Kind::Filling => left,
+            Kind::TooLong => left.saturating_add(1),
+            Kind::Other(bits) => bits,
+        }
+    }
+}
+
+// Two stores and the plain lists, which get the same calls, and what was seen of their answers.
+#[derive(Drop)]
+pub struct Comparison<A, B> {
+    first: A,
+    second: B,
+    listed: Listed,
+    seen: Seen,
+}
+
+impl<A: BitRows + Drop, B: BitRows + Drop> Comparison<A, B> {
+    pub fn new(heap: Global, first: A, second: B) -> Result<Comparison<A, B>, AllocError> {
+        let listed = Listed::new(heap, first.room())?;
+        Ok(Comparison {
+            first,
+            second,
+            listed,
+            seen: Seen::nothing(heap),
+        })
+    }
+
+    // The room of the first store, and of the lists.
+    pub fn room(&self) -> Room {
+        self.first.room()
+    }
+
+    fn clear(&mut self) {
+        self.first.clear();
+        self.second.clear();
+        self.listed.clear();
+    }
+
+    // The next three give all three a call, and note their answers. They are three functions, since the stores differ in
+    // type and no one closure can be called on both.
+    fn put(&mut self, row: u32, bit: bool, count: u32) -> Result<(), AllocError> {
+        let first = self.first.put(row, bit, count);
+        let second = self.second.put(row, bit, count);
+        let listed = self.listed.put(row, bit, count);
+        self.seen.note(first, second, listed)
+    }
+
+    fn length(&mut self, row: u32) -> Result<(), AllocError> {
+        let first = self.first.length(row);
+        let second = self.second.length(row);
+        let listed = self.listed.length(row);
+        self.seen.note(first, second, listed)
+    }
+
+    fn zeros(&mut self, row: u32, position: u32) -> Result<(), AllocError> {
+        let first = self.first.zeros(row, position);
+        let second = self.second.zeros(row, position);
+        let listed = self.listed.zeros(row, position);
+        self.seen.note(first, second, listed)
+    }
+
+    // The length of a row in the lists, or 0 where there is no such row.
+    fn listed_length(&self, row: u32) -> u32 {
+        self.listed.length(row).unwrap_or(0)
+    }
+
+    // The length of a row, and the zeros at its start, at its end and past it, at a multiple of 64 and somewhere.
+    fn ask(&mut self, row: u32, drawn: u64) -> Result<(), AllocError> {
+        let room = self.room();
+        let length = self.listed_length(row);
+        let past = length.saturating_add(1);
+        let somewhere = pick(drawn, past);
+        self.seen.note_length(length, room);
+        self.length(row)?;
+        for position in [0, length, past, somewhere / 64 * 64, somewhere] {
+            self.zeros(row, position)?;
+        }
+        Ok(())
+    }
+
+    // One put, mostly to row 3, and then the questions on its row and on another; now and then a clear before it.
+    fn turn(&mut self, random: &mut Random, puts: Puts) -> Result<(), AllocError> {
+        let room = self.room();
+        if random.below(room.puts.saturating_mul(4).saturating_add(16)) == 0 {
+            self.clear();
+        }
+        let mostly = random.below(4) != 0;
+        let any = random.below(9);
+        let row = if mostly { 3 } else { any };
+        let bit = random.below(2) == 1;
+        let number = random.below(puts.rare);
+        let other = random.below(puts.most).saturating_add(1);
+        let count = Kind::drawn(number, other).bits(self.listed_length(row), room);
+        self.put(row, bit, count)?;
+        let drawn = random.draw();
+        self.ask(row, drawn)?;
+        self.ask(pick(drawn, 8), random.draw())
+    }
+
+    // So many turns. Eight drawn numbers go unused before the first turn, and one after each.
+    pub fn run(mut self, seed: u64, turns: u32, puts: Puts) -> Result<Seen, AllocError> {
+        let mut random = Random { state: seed };
+        random.skip(8);
+        for _ in 0..turns {
+            self.turn(&mut random, puts)?;
+            random.skip(1);
+        }
+        Ok(self.seen)
+    }
 }

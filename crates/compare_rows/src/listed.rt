@@ -1,90 +1,103 @@
 // Eight rows as plain lists of bits, with the rules of a store written out once more.
-use rows::Room;
+ghost use Rattle.std.specs.Prelude.{◌<◌, ◌≤◌, ◌^◌, vec_len, vec_capacity};
+
+use rows::{Room, RowsRefusal};
 use std::alloc::{AllocError, Global};
 
-// What a call answers: a number, or the number of its refusal.
-pub type Said = Result<u32, u32>;
+// A row's bits, and how many puts it has taken. Memory for all the bits that it has room for is taken at the start.
+#[derive(Drop)]
+struct ListedRow {
+    room: Room,
+    bits: Vec<bool>,
+    puts: u32,
+    // so the casts of a number of bits lose nothing, where `u32::try_from` would add a case that never comes
+    ghost short: { vec_len bits < 2 ^ 32 },
+    ghost reserved: { room.bits ≤ vec_capacity bits },
+}
+
+impl ListedRow {
+    fn new(heap: Global, room: Room) -> Result<ListedRow, AllocError> {
+        let bits = Vec::with_capacity(heap, room.bits as usize)?;
+        Ok(ListedRow {
+            room,
+            bits,
+            puts: 0,
+        })
+    }
+
+    fn clear(&mut self) {
+        self.bits.clear();
+        self.puts = 0;
+    }
+
+    fn put(&mut self, bit: bool, count: u32) -> Result<(), RowsRefusal> {
+        if count == 0 {
+            return Err(RowsRefusal::EmptyPut);
+        }
+        if self.puts >= self.room.puts {
+            return Err(RowsRefusal::PutsFull);
+        }
+        let length = self.bits.len() + count as usize;
+        if length > self.room.bits as usize {
+            return Err(RowsRefusal::RowTooLong);
+        }
+        self.bits.resize(length, bit).unwrap();
+        self.puts += 1;
+        Ok(())
+    }
+
+    fn length(&self) -> u32 {
+        self.bits.len() as u32
+    }
+
+    fn zeros(&self, position: u32) -> Result<u32, RowsRefusal> {
+        let front = self
+            .bits
+            .get(..position as usize)
+            .ok_or(RowsRefusal::PastEnd)?;
+        Ok(front.iter().filter(|&&bit| !bit).count() as u32)
+    }
+}
 
 #[derive(Drop)]
 pub struct Listed {
-    room: Room,
-    // bit p of row r stands at r * W + p
-    bits: Vec<bool>,
-    lengths: [u32; 8],
-    puts: [u32; 8],
+    // the eight rows
+    rows: Vec<ListedRow>,
 }
 
 impl Listed {
     pub fn new(heap: Global, room: Room) -> Result<Listed, AllocError> {
-        let size = 8 * room.bits as usize;
-        let bits = vec![in heap; false; size]?;
-        Ok(Listed {
-            room,
-            bits,
-            lengths: [0; 8],
-            puts: [0; 8],
-        })
+        let rows = (0..8)
+            .map(|_| ListedRow::new(heap, room))
+            .try_collect(heap)?;
+        Ok(Listed { rows })
+    }
+
+    fn row(&self, row: u32) -> Result<&ListedRow, RowsRefusal> {
+        self.rows.get(row as usize).ok_or(RowsRefusal::NoSuchRow)
+    }
+
+    fn row_mut(&mut self, row: u32) -> Result<&mut ListedRow, RowsRefusal> {
+        self.rows
+            .get_mut(row as usize)
+            .ok_or(RowsRefusal::NoSuchRow)
     }
 
     pub fn clear(&mut self) {
-        self.lengths = [0; 8];
-        self.puts = [0; 8];
+        for row in &mut self.rows {
+            row.clear();
+        }
     }
 
-    fn push(&mut self, row: usize, bit: bool) {
-        if row > 7 {
-            return;
-        }
-        let at = row * self.room.bits as usize + self.lengths[row] as usize;
-        if at < self.bits.len() {
-            self.bits[at] = bit;
-        }
-        self.lengths[row] = self.lengths[row].saturating_add(1);
+    pub fn put(&mut self, row: u32, bit: bool, count: u32) -> Result<(), RowsRefusal> {
+        self.row_mut(row)?.put(bit, count)
     }
 
-    pub fn put(&mut self, row: u32, bit: bool, count: u32) -> Said {
-        if row > 7 {
-            return Err(23);
-        }
-        if count == 0 {
-            return Err(24);
-        }
-        let at = row as usize;
-        if self.puts[at] >= self.room.puts {
-            return Err(25);
-        }
-        if u64::from(self.lengths[at]) + u64::from(count) > u64::from(self.room.bits) {
-            return Err(26);
-        }
-        self.puts[at] = self.puts[at].saturating_add(1);
-        for _ in 0..count {
-            self.push(at, bit);
-        }
-        Ok(0)
+    pub fn length(&self, row: u32) -> Result<u32, RowsRefusal> {
+        Ok(self.row(row)?.length())
     }
 
-    pub fn length(&self, row: u32) -> Said {
-        if row > 7 {
-            return Err(23);
-        }
-        Ok(self.lengths[row as usize])
-    }
-
-    pub fn zeros(&self, row: u32, position: u32) -> Said {
-        if row > 7 {
-            return Err(23);
-        }
-        if position > self.lengths[row as usize] {
-            return Err(27);
-        }
-        let start = row as usize * self.room.bits as usize;
-        let mut zeros = 0u32;
-        for p in 0..position {
-            let at = start + p as usize;
-            if at < self.bits.len() && !self.bits[at] {
-                zeros = zeros.saturating_add(1);
-            }
-        }
-        Ok(zeros)
+    pub fn zeros(&self, row: u32, position: u32) -> Result<u32, RowsRefusal> {
+        self.row(row)?.zeros(position)
     }
 }

@@ -1,4 +1,3 @@
-pub mod PlainGood
 pub mod PlainValues
 pub mod PlainSteps
 pub mod PlainPuts

@@ -1,41 +1,52 @@
--- A put that is taken: s becomes t by `append`, and t becomes the parts left by `count`.
-use Rattle.std.proofs.Common.{◌≡◌, ℕ, ◌+◌, ◌<◌, ◌≤◌, Bool, List, length, get_or, drop, set, Ok, ap, ◌∙◌, arith}
-use Rattle.rows.specs.declared.room.Room.{Room}
-use Rattle.rows.specs.Meaning.{Row, row_at, fit_answer, with_put}
-use Rattle.plain_rows.specs.PlainWords.{bit_words, plain_used, plain_wrote, bits_of, rows_in, view, Fields, fields, Sound, Grown}
-use Rattle.plain_rows.specs.PlainSound.{length-bits, row_is}
-use Rattle.rows.proofs.Admits.{Admits, admits}
+-- A put that is taken: s becomes t by `append`, and then the put is counted.
+use Rattle.std.proofs.Common.{◌≡◌, ℕ, ◌+◌, ◌<◌, ◌≤◌, Bool, List, length, set, Ok, sym, refl, ap, ◌∙◌, arith}
+use Rattle.std.proofs.lemmas.List.{set-set}
+use Rattle.rows.specs.Meaning.{Row, row_at, FitBy, longer, with_put}
+use Rattle.plain_rows.specs.declared.plain.Filled.{Filled}
+use Rattle.plain_rows.specs.declared.plain.Table.{Table}
+use Rattle.plain_rows.specs.PlainWords.{bit_words, plain_wrote}
+use Rattle.plain_rows.specs.PlainTable.{Good, Grown, filled_at, row_of, rows_of}
+use Rattle.plain_rows.proofs.PlainExtends.{row_in, length_in, grown_row}
 use Rattle.plain_rows.proofs.PlainImages.{words_are}
-use Rattle.plain_rows.proofs.PlainExtends.{rows_put, sound_counted}
+use Rattle.plain_rows.proofs.PlainPuts.{Written, sound_after, rows_after}
 
-module _ (s : Fields) (row : ℕ) (bit : Bool) (count : ℕ) (sound : Sound s) (low : row < 8)
-    (taken : fit_answer s.room (row_at (rows_in s) row).puts (length (row_at (rows_in s) row).bits) count ≡ Ok tt) where
-  abbrev blocks : ℕ
-  blocks = bit_words s.room.bits
+module _ (s : Table) (ws : List ℕ) (row : ℕ) (bit : Bool) (count : ℕ) (low : row < 8)
+    (taken : FitBy s.room (row_at (rows_of s ws) row).puts (length (row_at (rows_of s ws) row).bits) count (Ok tt)) where
+  abbrev R : Row
+  R = row_at (rows_of s ws) row
 
-  before : row_at (rows_in s) row ≡ record { bits = bits_of (view blocks s.ws row) (get_or s.ls row 0); puts = get_or s.ps row 0 }
-  before = row_is blocks s.ws s.ls s.ps row low
+  pub fits : length R.bits + count ≤ s.room.bits
+  fits = taken.2
 
-  room_for : Admits s.room (row_at (rows_in s) row).puts (length (row_at (rows_in s) row).bits) count
-  room_for = admits s.room (row_at (rows_in s) row).puts (length (row_at (rows_in s) row).bits) count taken
+  module _ (t : Table) (vs : List ℕ) (long : Grown row bit count s ws t vs) where
+    abbrev L : ℕ
+    L = bit_words t.room.bits
 
-  pub left : get_or s.ps row 0 < s.room.puts
-  left = omega (arith, room_for.left, ap (λ (r : Row). r.puts) before)
+    abbrev new : Filled
+    new = record { bits = (filled_at t.rows row).bits; puts = (filled_at t.rows row).puts + 1 }
 
-  pub fits : get_or s.ls row 0 + count ≤ s.room.bits
-  fits = omega (arith, room_for.fits, ap (λ (r : Row). length r.bits) before, length-bits (view blocks s.ws row) (get_or s.ls row 0))
+    abbrev u : Table
+    u = record t { rows = set t.rows row new }
 
-  module _ (t : Fields) (sound_t : Sound t) (long : Grown row bit count s t) where
-    pub left_then : get_or t.ps row 0 < t.room.puts
-    left_then = rw (long.ps, long.room) left
+    same : Written L row (row_of L vs t.rows row).bits vs vs
+    same = record { fit = long.good.ok row low; same = refl; others = λ r h ne. refl; rest = refl }
 
-    module _ (room' : Room) (ws' ls' ps' : List ℕ) (room_is : room' ≡ t.room) (ws_is : ws' ≡ t.ws) (ls_is : ls' ≡ t.ls) (ps_is : ps' ≡ set t.ps row (get_or t.ps row 0 + 1)) where
-      pub sound_put : Sound (fields room' ws' ls' ps')
-      sound_put = rw (room_is, ws_is, ls_is, ps_is) (sound_counted t row sound_t low left_then)
+    pub few : (filled_at t.rows row).puts + 1 ≤ t.room.puts
+    few =
+        let e = ap (λ (r : Row). r.puts) (sym (row_in t vs row low) ∙ grown_row row bit count s ws t vs low long) in
+        rw long.room (omega (arith, e, taken.1))
 
-      pub rows_after : rows_in (fields room' ws' ls' ps') ≡ with_put (rows_in s) row bit count
-      rows_after = rw (room_is, ws_is, ls_is, ps_is) (rows_put row bit count s t low sound.eight.1 long)
+    size : length (row_of L vs t.rows row).bits ≡ (filled_at t.rows row).bits
+    size = ap (λ (r : Row). length r.bits) (sym (row_in t vs row low)) ∙ length_in t vs row low
 
-      pub words_after : ws' ≡ plain_wrote s.room (rows_in s) s.ws row bit count
-      words_after = words_are (fields room' ws' ls' ps') s.room (with_put (rows_in s) row bit count) s.ws sound_put (room_is ∙ long.room) rows_after
-          (ap (λ (l : List ℕ). drop (plain_used s.room) l) ws_is ∙ long.rest)
+    pub good_put : Good u vs
+    good_put = sound_after t.room vs vs t.rows row new _ long.good low same size (long.good.within row).0 few
+
+    pub rows_put : rows_of u vs ≡ with_put (rows_of s ws) row bit count
+    rows_put =
+        rows_after t.room vs vs t.rows row new _ long.good low same size (long.good.within row).0 few
+        ∙ ap (λ (q : Row). set (rows_of t vs) row (record { bits = q.bits; puts = q.puts + 1 })) (sym (row_in t vs row low) ∙ grown_row row bit count s ws t vs low long)
+        ∙ ap (λ (q : List Row). set q row (longer R bit count)) long.rows ∙ set-set (rows_of s ws) row _ (longer R bit count)
+
+    pub words_put : vs ≡ plain_wrote s.room (rows_of s ws) ws row bit count
+    words_put = words_are u vs s.room (with_put (rows_of s ws) row bit count) ws good_put long.room rows_put long.rest

@@ -1,86 +1,69 @@
--- What the two writes of `extend` make of a row's words.
-use Rattle.std.proofs.Common.{◌≡◌, ℕ, ◌+◌, ◌-◌, ◌*◌, ◌/◌, ◌%◌, ◌^◌, ◌<◌, ◌≤◌, Bool, cond, not, ◌⊎◌, List, ◌++◌, length, get_or, take, set, replicate, sym, ap, ◌∙◌, ⊎_elim, arith}
+-- What the writes of `write_run` make of a row's words.
+use Rattle.std.proofs.Common.{◌≡◌, ℕ, ◌+◌, ◌-◌, ◌*◌, ◌/◌, ◌%◌, ◌^◌, ◌<◌, ◌≤◌, Bool, cond, not, List, ◌++◌, length, get_or, take, set, replicate, sym, refl, ap, ◌∙◌, arith}
 use Rattle.std.specs.Int.Bits.{bit_or}
 use Rattle.std.specs.Int.Count.{ones}
 use Rattle.std.proofs.lemmas.Nat.{or_comm, or_shifted}
 use Rattle.std.proofs.lemmas.List.{get_or-set_same, get_or-set_other, length-set, length-replicate, length-take}
 use Rattle.std.proofs.lemmas.List.Sums.{count_by-le-length}
-use Rattle.plain_rows.specs.PlainWords.{value, zeros_before, bits_of, view_at}
-use Rattle.plain_rows.specs.PlainSound.{length-bits}
-use Rattle.plain_rows.proofs.PlainValues.{value_run, word_low, coded_word, coded_before, before_is, Fits, grows}
-
--- the words outside the n from `base` on are as they were
-abbrev pub Elsewhere : ℕ → ℕ → List ℕ → List ℕ → Type 0
-Elsewhere base n ws vs = (j : ℕ) → (j < base) ⊎ (base + n ≤ j) → get_or vs j 0 ≡ get_or ws j 0
+use Rattle.plain_rows.specs.PlainWords.{value, word, zeros_before}
+use Rattle.plain_rows.specs.PlainTable.{IsRow}
+use Rattle.plain_rows.proofs.PlainValues.{value_run, word_low, word_here, word_lt, ones_rest, before_is, Halves, halves, whole, grows}
 
 pub before_le : (bs : List Bool) (m : ℕ) → 64 * m ≤ length bs → zeros_before bs m ≤ length bs
 before_le bs m h = omega (arith, before_is bs m h, count_by-le-length not (take (64 * m) bs), length-take (64 * m) bs)
 
-module _ (ws : List ℕ) (base blocks size : ℕ) (bit : Bool) (count r : ℕ) (low : base + 2 * blocks ≤ length ws) (some : 0 < count) (room : size % 64 + count ≤ 64)
-    (fits : size + count ≤ 64 * blocks) (fit : Fits blocks (view_at ws base) (bits_of (view_at ws base) size)) (run : r ≡ cond bit (2 ^ count - 1) 0 * 2 ^ (size % 64)) where
-  abbrev bs : List Bool
-  bs = bits_of (view_at ws base) size
-
+module _ (L : ℕ) (ws A B : List ℕ) (bs : List Bool) (size : ℕ) (bit : Bool) (count r : ℕ) (fit : IsRow L bs ws) (parts : ws ≡ A ++ B) (front : length A ≡ L) (back : L ≤ length B)
+    (long : length bs ≡ size) (some : 0 < count) (room : size % 64 + count ≤ 64) (fits : size + count ≤ 64 * L) (run : r ≡ cond bit (2 ^ count - 1) 0 * 2 ^ (size % 64)) where
   abbrev xs : List Bool
   xs = replicate count bit
 
-  abbrev at : ℕ
-  at = base + size / 64
+  abbrev m : ℕ
+  m = size / 64
 
   abbrev x : ℕ
-  x = bit_or (get_or ws at 0) r
+  x = bit_or (get_or A m 0) r
 
-  abbrev vs : List ℕ
-  vs = set ws at x
-
-  long : length bs ≡ size
-  long = length-bits (view_at ws base) size
+  two : Halves L bs A B
+  two = halves L bs ws A B fit parts front
 
   more : length xs ≡ count
   more = length-replicate count bit
 
-  x_is : x ≡ get_or ws at 0 + value xs * 2 ^ (size % 64)
+  word_is : get_or A m 0 ≡ word bs m
+  word_is = two.words m (omega arith)
+
+  x_is : x ≡ get_or A m 0 + value xs * 2 ^ (size % 64)
   x_is =
-      let w : get_or ws at 0 < 2 ^ (size % 64) = rw (fit (size / 64) (omega arith) ∙ coded_word blocks bs (size / 64) (omega arith)) (word_low bs xs size count long more room) in
-      or_comm (get_or ws at 0) r ∙ ap (λ (t : ℕ). bit_or t (get_or ws at 0)) (run ∙ ap (λ (n : ℕ). n * 2 ^ (size % 64)) (sym (value_run bit count)))
-      ∙ or_shifted (value xs) (size % 64) (get_or ws at 0) w ∙ omega arith
+      let w : get_or A m 0 < 2 ^ (size % 64) = rw word_is (word_low bs xs size count long more room) in
+      or_comm (get_or A m 0) r ∙ ap (λ (t : ℕ). bit_or t (get_or A m 0)) (run ∙ ap (λ (n : ℕ). n * 2 ^ (size % 64)) (sym (value_run bit count)))
+      ∙ or_shifted (value xs) (size % 64) (get_or A m 0) w ∙ omega arith
 
-  here : get_or vs at 0 ≡ get_or ws at 0 + value xs * 2 ^ (size % 64)
-  here = get_or-set_same ws at x 0 (omega arith) ∙ x_is
+  x_low : x < 2 ^ 64
+  x_low = omega (arith, x_is, word_is, word_here bs xs size count long more room, word_lt (bs ++ xs) m)
 
-  pub word_only : ((size + count) % 64 ≡ 0 → (size + count) / 64 < blocks → ⊥) → Fits blocks (view_at vs base) (bs ++ xs)
+  at_m : get_or (set A m x) m 0 ≡ x
+  at_m = get_or-set_same A m x 0 (omega arith)
+
+  -- where the word is not full then, or is the last
+  pub word_only : ((size + count) % 64 ≡ 0 → (size + count) / 64 < L → ⊥) → IsRow L (bs ++ xs) (set A m x ++ B)
   word_only never =
-      grows blocks (view_at ws base) (view_at vs base) bs xs size count long more room fits some fit here (λ a b. absurd (never (omega arith) (omega arith)))
-      (λ i h ne _. get_or-set_other ws at (base + i) x 0 (λ e. ne (omega arith)))
+      whole L (bs ++ xs) (set A m x) B
+      (grows L A B (set A m x) B bs xs size count long more room fits some two (at_m ∙ x_is) (λ i ne. get_or-set_other A m i x 0 ne)
+      (λ a b. absurd (never (omega arith) (omega arith))) (λ j h none. refl))
+      (length-set A m x ∙ front)
 
-  pub kept_one : Elsewhere base (2 * blocks) ws vs
-  kept_one j h = get_or-set_other ws at j x 0 (λ e. ⊎_elim (λ (l : j < base). omega arith) (λ (l : base + 2 * blocks ≤ j). omega arith) h)
+  pub count_small : get_or B m 0 ≤ size
+  count_small = omega (arith, two.counts m (omega arith), before_le bs m (omega (arith, long)), long)
 
-  -- the count at m
-  pub count_small : get_or ws (base + (blocks + size / 64)) 0 ≤ size
-  count_small = omega (arith, fit (blocks + size / 64) (omega arith), coded_before blocks bs (size / 64), before_le bs (size / 64) (omega (arith, long)), long)
-
-  module _ (full : (size + count) % 64 ≡ 0) (next : (size + count) / 64 < blocks) where
-    abbrev to : ℕ
-    to = base + blocks + (size + count) / 64
-
-    abbrev y : ℕ
-    y = get_or ws (base + (blocks + size / 64)) 0 + (64 - ones x)
-
-    same_here : get_or (set vs to y) at 0 ≡ get_or vs at 0
-    same_here = get_or-set_other vs to at y 0 (λ e. omega arith)
-
-    there : get_or (set vs to y) (base + (blocks + (size / 64 + 1))) 0 ≡ get_or ws (base + (blocks + size / 64)) 0 + (64 - ones (get_or (set vs to y) at 0))
-    there =
-        let a : base + (blocks + (size / 64 + 1)) ≡ to = omega arith in
-        let l : to < length vs = rw (length-set ws at x) (omega arith) in
-        ap (λ (n : ℕ). get_or (set vs to y) n 0) a ∙ get_or-set_same vs to y 0 l
-        ∙ ap (λ (n : ℕ). get_or ws (base + (blocks + size / 64)) 0 + (64 - ones n)) (sym (same_here ∙ get_or-set_same ws at x 0 (omega arith)))
-
-    pub word_and_count : Fits blocks (view_at (set vs to y) base) (bs ++ xs)
-    word_and_count =
-        grows blocks (view_at ws base) (view_at (set vs to y) base) bs xs size count long more room fits some fit (same_here ∙ here) (λ _ _. there)
-        (λ i h ne none. get_or-set_other vs to (base + i) y 0 (λ e. none (omega arith) (omega arith)) ∙ get_or-set_other ws at (base + i) x 0 (λ e. ne (omega arith)))
-
-    pub kept_two : Elsewhere base (2 * blocks) ws (set vs to y)
-    kept_two j h = get_or-set_other vs to j y 0 (λ e. ⊎_elim (λ (l : j < base). omega arith) (λ (l : base + 2 * blocks ≤ j). omega arith) h) ∙ kept_one j h
+  pub word_and_count : (size + count) % 64 ≡ 0 → (size + count) / 64 < L → (z : ℕ) → z ≡ ones (2 ^ 64 - 1 - get_or (set A m x) m 0) →
+      IsRow L (bs ++ xs) (set A m x ++ set B ((size + count) / 64) (get_or B m 0 + z))
+  word_and_count full next z z_is =
+      let to = (size + count) / 64 in
+      let y = get_or B m 0 + z in
+      let there : get_or (set B to y) (m + 1) 0 ≡ get_or B m 0 + (64 - ones (get_or (set A m x) m 0)) =
+      let e : m + 1 ≡ to = omega arith in
+      ap (λ (n : ℕ). get_or (set B to y) n 0) e ∙ get_or-set_same B to y 0 (omega arith) ∙ omega (arith, z_is, ones_rest 64 (get_or (set A m x) m 0) (rw at_m x_low)) in
+      whole L (bs ++ xs) (set A m x) (set B to y)
+      (grows L A B (set A m x) (set B to y) bs xs size count long more room fits some two (at_m ∙ x_is) (λ i ne. get_or-set_other A m i x 0 ne)
+      (λ _ _. there) (λ j h none. get_or-set_other B to j y 0 (λ e. none (omega arith) (omega arith))))
+      (length-set A m x ∙ front)

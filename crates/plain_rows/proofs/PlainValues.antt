@@ -4,13 +4,14 @@ use Rattle.std.proofs.Math.Nat.{zero-div}
 use Rattle.std.specs.Int.Count.{ones, ones_step, ones-le}
 use Rattle.std.proofs.lemmas.List.FromFn.{get_or-map-range_with_len}
 use Rattle.std.proofs.lemmas.Nat.{shr-shr, mod_low}
-use Rattle.std.proofs.lemmas.List.{ext_get_or, get_or-take, get_or-drop, length-drop, length-take, length-take-le, length-append, take-append-drop, take-append-le, take-take, take_all, drop-append-le, drop_all}
+use Rattle.std.proofs.lemmas.List.{ext_get_or, get_or_append_left, get_or-append_right, get_or-take, get_or-drop, length-drop, length-take, length-take-le, length-append, take-append-drop, take-append-le, take-take, take_all, drop-append-le, drop_all}
 use Rattle.std.proofs.lemmas.Bool.{cases_lt, cases_eq, lt-ltb, le-ltb, le-leb, lt-leb}
 use Rattle.rows.specs.Meaning.{zeros_in}
 use Rattle.plain_rows.specs.PlainSound.{length-bits}
 use Rattle.std.proofs.Math.Seq.{take-add}
 use Rattle.rows.specs.ZeroCounts.{zeros-cons, zeros-++}
 use Rattle.plain_rows.specs.PlainWords.{value, word, zeros_before, coded, bit_at, bits_of}
+use Rattle.plain_rows.specs.PlainTable.{IsRow}
 
 pub value-append : (xs ys : List Bool) → value (xs ++ ys) ≡ value xs + value ys * 2 ^ length xs
 value-append [] ys = omega arith
@@ -61,16 +62,22 @@ ones_value (false ∷ bs) =
     let b : (0 + 2 * value bs) / 2 ≡ value bs = omega arith in
     omega (arith, ones_step (0 + 2 * value bs), a, ap ones b, zeros-cons false bs, ones_value bs)
 
--- the words f of a row are those of these bits
-abbrev pub Fits : ℕ → (ℕ → ℕ) → List Bool → Type 0
-Fits blocks f bs = (i : ℕ) → i < 2 * blocks → f i ≡ coded blocks bs i
+pub ones_rest : (k n : ℕ) → n < 2 ^ k → ones (2 ^ k - 1 - n) + ones n ≡ k
+unfolding ones
+ones_rest zero n h = let z : n ≡ 0 = omega (arith, h) in rw z refl
+ones_rest (suc k) n h =
+    let p = pow-suc 2 k in
+    let m = 2 ^ suc k - 1 - n in
+    let a : m / 2 ≡ 2 ^ k - 1 - n / 2 = omega (arith, p) in
+    let b : m % 2 ≡ 1 - n % 2 = omega (arith, p) in
+    omega (arith, ones_step m, ones_step n, ap ones a, b, ones_rest k (n / 2) (omega (arith, p)))
 
 -- ---- the words say the bits
-pub coded_word : (blocks : ℕ) (bs : List Bool) (i : ℕ) → i < blocks → coded blocks bs i ≡ word bs i
-coded_word blocks bs i h = rw (lt-ltb i blocks h)
+pub coded_word : (L : ℕ) (bs : List Bool) (i : ℕ) → i < L → coded L bs i ≡ word bs i
+coded_word L bs i h = rw (lt-ltb i L h)
 
-pub coded_before : (blocks : ℕ) (bs : List Bool) (m : ℕ) → coded blocks bs (blocks + m) ≡ zeros_before bs m
-coded_before blocks bs m = let e : blocks + m - blocks ≡ m = omega arith in rw (le-ltb (blocks + m) blocks (omega arith), e)
+pub coded_before : (L : ℕ) (bs : List Bool) (m : ℕ) → coded L bs (L + m) ≡ zeros_before bs m
+coded_before L bs m = let e : L + m - L ≡ m = omega arith in rw (le-ltb (L + m) L (omega arith), e)
 
 bit_is : (bs : List Bool) (p : ℕ) → eqb (word bs (p / 64) / 2 ^ (p % 64) % 2) 1 ≡ get_or bs p false
 bit_is bs p =
@@ -78,13 +85,13 @@ bit_is bs p =
     value_bit (take 64 (drop (64 * (p / 64)) bs)) (p % 64) ∙ get_or-take 64 (drop (64 * (p / 64)) bs) (p % 64) false (omega arith)
     ∙ get_or-drop (64 * (p / 64)) bs (p % 64) false ∙ ap (λ (n : ℕ). get_or bs n false) e
 
-pub said : (blocks : ℕ) (f : ℕ → ℕ) (bs : List Bool) (n : ℕ) → Fits blocks f bs → length bs ≡ n → n ≤ 64 * blocks → bits_of f n ≡ bs
+pub said : (L : ℕ) (ws : List ℕ) (bs : List Bool) (n : ℕ) → IsRow L bs ws → length bs ≡ n → n ≤ 64 * L → bits_of ws n ≡ bs
 unfolding bits_of
-said blocks f bs n fit l h =
-    ext_get_or false (bits_of f n) bs (length-bits f n ∙ sym l) (λ p lt.
-    let q : p < n = omega (arith, length-bits f n) in
-    get_or-map-range_with_len (bit_at f) 0 n p p false q (omega arith)
-    ∙ ap (λ (w : ℕ). eqb (w / 2 ^ (p % 64) % 2) 1) (fit (p / 64) (omega arith) ∙ coded_word blocks bs (p / 64) (omega arith))
+said L ws bs n fit l h =
+    ext_get_or false (bits_of ws n) bs (length-bits ws n ∙ sym l) (λ p lt.
+    let q : p < n = omega (arith, length-bits ws n) in
+    get_or-map-range_with_len (bit_at ws) 0 n p p false q (omega arith)
+    ∙ ap (λ (w : ℕ). eqb (w / 2 ^ (p % 64) % 2) 1) (fit (p / 64) (omega arith) ∙ coded_word L bs (p / 64) (omega arith))
     ∙ bit_is bs p)
 
 -- ---- the zeros before a place
@@ -160,41 +167,58 @@ module _ (bs xs : List Bool) (size count : ℕ) (long : length bs ≡ size) (mor
       let o = ones-le 64 (word (bs ++ xs) m) (word_lt (bs ++ xs) m) in
       omega (arith, z, ap ones w, o, before_is (bs ++ xs) (m + 1) (omega arith), before_other m (inl (omega arith)))
 
--- ---- a row whose words f become g
-module _ (blocks : ℕ) (f g : ℕ → ℕ) (bs xs : List Bool) (size count : ℕ) (long : length bs ≡ size) (more : length xs ≡ count) (room : size % 64 + count ≤ 64)
-    (fits : size + count ≤ 64 * blocks) (some : 0 < count) (fit : Fits blocks f bs)
-    (here : g (size / 64) ≡ f (size / 64) + value xs * 2 ^ (size % 64))
-    (there : size % 64 + count ≡ 64 → size / 64 + 1 < blocks → g (blocks + (size / 64 + 1)) ≡ f (blocks + size / 64) + (64 - ones (g (size / 64))))
-    (other : (i : ℕ) → i < 2 * blocks → (i ≡ size / 64 → ⊥) → (size % 64 + count ≡ 64 → i ≡ blocks + (size / 64 + 1) → ⊥) → g i ≡ f i) where
-  in_row : size / 64 < blocks
+-- ---- the words of a row in two parts, A of bits and B of counts
+pub record Halves (L : ℕ) (bs : List Bool) (A B : List ℕ) : Type 0 where
+  pub words : (m : ℕ) → m < L → get_or A m 0 ≡ word bs m
+  pub counts : (m : ℕ) → m < L → get_or B m 0 ≡ zeros_before bs m
+
+pub halves : (L : ℕ) (bs : List Bool) (ws A B : List ℕ) → IsRow L bs ws → ws ≡ A ++ B → length A ≡ L → Halves L bs A B
+halves L bs ws A B fit e l = record {
+  words = λ m h. sym (ap (λ (us : List ℕ). get_or us m 0) e ∙ get_or_append_left A B 0 m (omega arith)) ∙ fit m (omega arith) ∙ coded_word L bs m h;
+  counts = λ m h.
+      let z : L + m - L ≡ m = omega arith in
+      sym (ap (λ (us : List ℕ). get_or us (L + m) 0) e ∙ get_or-append_right A B L (L + m) 0 l (omega arith) ∙ ap (λ (n : ℕ). get_or B n 0) z) ∙ fit (L + m) (omega arith) ∙ coded_before L bs m;
+}
+
+pub whole : (L : ℕ) (bs : List Bool) (A B : List ℕ) → Halves L bs A B → length A ≡ L → IsRow L bs (A ++ B)
+whole L bs A B two l i h = ⊎_elim
+    (λ (k : i < L). get_or_append_left A B 0 i (omega arith) ∙ two.words i k ∙ sym (coded_word L bs i k))
+    (λ (k : L ≤ i).
+    let e : L + (i - L) ≡ i = omega arith in
+    get_or-append_right A B L i 0 l k ∙ two.counts (i - L) (omega arith) ∙ sym (coded_before L bs (i - L)) ∙ ap (λ (n : ℕ). coded L bs n) e)
+    (cases_lt i L)
+
+-- ---- a row whose words A and counts B become A' and B'
+module _ (L : ℕ) (A B A' B' : List ℕ) (bs xs : List Bool) (size count : ℕ) (long : length bs ≡ size) (more : length xs ≡ count) (room : size % 64 + count ≤ 64)
+    (fits : size + count ≤ 64 * L) (some : 0 < count) (two : Halves L bs A B)
+    (here : get_or A' (size / 64) 0 ≡ get_or A (size / 64) 0 + value xs * 2 ^ (size % 64))
+    (other : (i : ℕ) → (i ≡ size / 64 → ⊥) → get_or A' i 0 ≡ get_or A i 0)
+    (there : size % 64 + count ≡ 64 → size / 64 + 1 < L → get_or B' (size / 64 + 1) 0 ≡ get_or B (size / 64) 0 + (64 - ones (get_or A' (size / 64) 0)))
+    (others : (j : ℕ) → j < L → (size % 64 + count ≡ 64 → j ≡ size / 64 + 1 → ⊥) → get_or B' j 0 ≡ get_or B j 0) where
+  in_row : size / 64 < L
   in_row = omega arith
 
-  g_here : g (size / 64) ≡ word (bs ++ xs) (size / 64)
-  g_here =
-      here ∙ ap (λ (w : ℕ). w + value xs * 2 ^ (size % 64)) (fit (size / 64) (omega (arith, in_row)) ∙ coded_word blocks bs (size / 64) in_row)
-      ∙ sym (word_here bs xs size count long more room)
+  new_here : get_or A' (size / 64) 0 ≡ word (bs ++ xs) (size / 64)
+  new_here = here ∙ ap (λ (w : ℕ). w + value xs * 2 ^ (size % 64)) (two.words (size / 64) in_row) ∙ sym (word_here bs xs size count long more room)
 
-  in_words : (i : ℕ) → i < blocks → (i ≡ size / 64) ⊎ (i ≡ size / 64 → ⊥) → g i ≡ word (bs ++ xs) i
-  in_words i h (inl e) = subst (λ (k : ℕ). g k ≡ word (bs ++ xs) k) (sym e) g_here
-  in_words i h (inr ne) = other i (omega arith) ne (λ _ e. omega arith) ∙ fit i (omega arith) ∙ coded_word blocks bs i h ∙ sym (word_other bs xs size count long more room i ne)
+  in_words : (i : ℕ) → i < L → (i ≡ size / 64) ⊎ (i ≡ size / 64 → ⊥) → get_or A' i 0 ≡ word (bs ++ xs) i
+  in_words i h (inl e) = subst (λ (k : ℕ). get_or A' k 0 ≡ word (bs ++ xs) k) (sym e) new_here
+  in_words i h (inr ne) = other i ne ∙ two.words i h ∙ sym (word_other bs xs size count long more room i ne)
 
-  in_counts : (j : ℕ) → j < blocks → (size % 64 + count ≡ 64) ⊎ (size % 64 + count ≡ 64 → ⊥) → (j ≡ size / 64 + 1) ⊎ (j ≡ size / 64 + 1 → ⊥) → g (blocks + j) ≡ zeros_before (bs ++ xs) j
+  in_counts : (j : ℕ) → j < L → (size % 64 + count ≡ 64) ⊎ (size % 64 + count ≡ 64 → ⊥) → (j ≡ size / 64 + 1) ⊎ (j ≡ size / 64 + 1 → ⊥) → get_or B' j 0 ≡ zeros_before (bs ++ xs) j
   in_counts j h (inl full) (inl e) =
-      subst (λ (k : ℕ). g (blocks + k) ≡ zeros_before (bs ++ xs) k) (sym e)
-      (there full (omega arith) ∙ ap (λ (n : ℕ). n + (64 - ones (g (size / 64)))) (fit (blocks + size / 64) (omega arith) ∙ coded_before blocks bs (size / 64))
-      ∙ ap (λ (n : ℕ). zeros_before bs (size / 64) + (64 - ones n)) g_here ∙ sym (before_next bs xs size count long more room full))
+      subst (λ (k : ℕ). get_or B' k 0 ≡ zeros_before (bs ++ xs) k) (sym e)
+      (there full (omega arith) ∙ ap (λ (n : ℕ). n + (64 - ones (get_or A' (size / 64) 0))) (two.counts (size / 64) in_row)
+      ∙ ap (λ (n : ℕ). zeros_before bs (size / 64) + (64 - ones n)) new_here ∙ sym (before_next bs xs size count long more room full))
   in_counts j h (inl full) (inr ne) =
-      other (blocks + j) (omega arith) (λ e. omega (arith, in_row)) (λ _ e. ne (omega arith)) ∙ fit (blocks + j) (omega arith) ∙ coded_before blocks bs j
+      others j h (λ _ e. ne e) ∙ two.counts j h
       ∙ sym (before_other bs xs size count long more room j (⊎_elim (λ (l : size < 64 * j). inr (omega (arith, ne))) (λ (l : 64 * j ≤ size). inl l) (cases_lt size (64 * j))))
   in_counts j h (inr short) w =
-      other (blocks + j) (omega arith) (λ e. omega (arith, in_row)) (λ a _. short a) ∙ fit (blocks + j) (omega arith) ∙ coded_before blocks bs j
+      others j h (λ a _. short a) ∙ two.counts j h
       ∙ sym (before_other bs xs size count long more room j (⊎_elim (λ (l : size < 64 * j). inr (omega (arith, short))) (λ (l : 64 * j ≤ size). inl l) (cases_lt size (64 * j))))
 
-  pub grows : Fits blocks g (bs ++ xs)
-  grows i h = ⊎_elim
-      (λ (l : i < blocks). in_words i l (cases_eq i (size / 64)) ∙ sym (coded_word blocks (bs ++ xs) i l))
-      (λ (l : blocks ≤ i).
-      let e : blocks + (i - blocks) ≡ i = omega arith in
-      subst (λ (k : ℕ). g k ≡ coded blocks (bs ++ xs) k) e
-      (in_counts (i - blocks) (omega arith) (cases_eq (size % 64 + count) 64) (cases_eq (i - blocks) (size / 64 + 1)) ∙ sym (coded_before blocks (bs ++ xs) (i - blocks))))
-      (cases_lt i blocks)
+  pub grows : Halves L (bs ++ xs) A' B'
+  grows = record {
+    words = λ i h. in_words i h (cases_eq i (size / 64));
+    counts = λ j h. in_counts j h (cases_eq (size % 64 + count) 64) (cases_eq j (size / 64 + 1));
+  }

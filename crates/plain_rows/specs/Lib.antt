@@ -1,2 +1,4 @@
 pub mod PlainWords
+pub mod PlainTable
 pub mod PlainSound
+pub mod PlainStore

@@ -1,7 +1,7 @@
 -- The words of a store that keeps its bits. Row r has 2 * L words, L of bits and then L of counts, where L is the room's
 -- bits / 64 rounded up. Bit p of the row has the value 2^(p % 64) in word p / 64 of the first L. Word m of the next L is
 -- the number of 0 bits before position 64 * m once the row is at least 64 * m long. All else is 0.
-use Rattle.std.specs.Prelude.{◌≡◌, ℕ, ◌+◌, ◌-◌, ◌*◌, ◌/◌, ◌%◌, ◌^◌, ◌<◌, ◌≤◌, Bool, cond, List, [], ◌∷◌, ◌++◌, map, length, take, drop, replicate, ◌==◌, nat_le, nat_lt, slice_index, slice_set}
+use Rattle.std.specs.Prelude.{◌≡◌, ℕ, ◌+◌, ◌-◌, ◌*◌, ◌/◌, ◌%◌, ◌^◌, ◌<◌, ◌≤◌, Bool, cond, List, [], ◌∷◌, ◌++◌, map, length, take, drop, ◌==◌, nat_le, nat_lt, slice_index}
 use Rattle.std.specs.List.{range_with_len}
 use Rattle.rows.specs.declared.room.Room.{Room}
 use Rattle.rows.specs.Meaning.{Row, row_at, zeros_in, with_put, zeroed}
@@ -55,58 +55,9 @@ plain_wiped room ws = zeroed (plain_used room) ws
 
 -- ---- from the words to the bits
 
--- word i of the row whose words begin at `base`
-abbrev pub view_at : List ℕ → ℕ → ℕ → ℕ
-view_at ws base i = slice_index ws (base + i)
+-- bit p of a row with these words, and the first n bits
+abbrev pub bit_at : List ℕ → ℕ → Bool
+bit_at ws p = slice_index ws (p / 64) / 2 ^ (p % 64) % 2 == 1
 
-abbrev pub view : ℕ → List ℕ → ℕ → ℕ → ℕ
-view L ws row = view_at ws (2 * L * row)
-
--- bit p of a row with the words f, and the first n bits
-abbrev pub bit_at : (ℕ → ℕ) → ℕ → Bool
-bit_at f p = f (p / 64) / 2 ^ (p % 64) % 2 == 1
-
-unfoldable pub bits_of : (ℕ → ℕ) → ℕ → List Bool
-bits_of f n = map (bit_at f) (range_with_len 0 n)
-
--- the rows that the words say, of so many bits and puts each
-abbrev pub row_of : ℕ → List ℕ → List ℕ → List ℕ → ℕ → Row
-row_of L ws ls ps row = record { bits = bits_of (view L ws row) (slice_index ls row); puts = slice_index ps row }
-
-unfoldable pub plain_rows : ℕ → List ℕ → List ℕ → List ℕ → List Row
-plain_rows L ws ls ps = map (row_of L ws ls ps) (range_with_len 0 8)
-
--- each row's words are those of its bits
-abbrev pub Kept : ℕ → List ℕ → List ℕ → Type 0
-Kept L ws ls = (row i : ℕ) → (row < 8) × (i < 2 * L) → view L ws row i ≡ coded L (bits_of (view L ws row) (slice_index ls row)) i
-
--- ---- the parts of such a store: its room, its words, and the bits and puts of each row
-pub record Fields : Type 0 where
-  pub room : Room
-  pub ws : List ℕ
-  pub ls : List ℕ
-  pub ps : List ℕ
-
-abbrev pub fields : Room → List ℕ → List ℕ → List ℕ → Fields
-fields room ws ls ps = record { room = room; ws = ws; ls = ls; ps = ps }
-
-abbrev pub rows_in : Fields → List Row
-rows_in s = plain_rows (bit_words s.room.bits) s.ws s.ls s.ps
-
--- what holds of them
-pub record Sound (s : Fields) : Type 0 where
-  pub few : s.room.puts ≤ 512
-  pub narrow : s.room.bits ≤ 33554432
-  pub enough : plain_used s.room ≤ length s.ws
-  pub eight : (length s.ls ≡ 8) × (length s.ps ≡ 8)
-  pub within : (row : ℕ) → (slice_index s.ls row ≤ s.room.bits) × (slice_index s.ps row ≤ s.room.puts)
-  pub ok : Kept (bit_words s.room.bits) s.ws s.ls
-
--- `count` copies of a bit were appended to a row, and their put is not counted yet
-pub record Grown (row : ℕ) (bit : Bool) (count : ℕ) (s t : Fields) : Type 0 where
-  pub room : t.room ≡ s.room
-  pub ps : t.ps ≡ s.ps
-  pub ls : t.ls ≡ slice_set s.ls row (slice_index s.ls row + count)
-  pub rows : rows_in t ≡
-      slice_set (rows_in s) row (record { bits = bits_of (view (bit_words s.room.bits) s.ws row) (slice_index s.ls row) ++ replicate count bit; puts = slice_index s.ps row })
-  pub rest : drop (plain_used s.room) t.ws ≡ drop (plain_used s.room) s.ws
+unfoldable pub bits_of : List ℕ → ℕ → List Bool
+bits_of ws n = map (bit_at ws) (range_with_len 0 n)

@@ -1,19 +1,21 @@
 // What every store does: the tests that refuse, the room that is granted, and words that are set to 0.
-ghost use Rattle.std.specs.Prelude.{◌≡◌, ◌<◌, ◌≤◌, length, set, replicate, IfOk, slice_set};
+ghost use Rattle.std.specs.Prelude.{◌≡◌, ◌≤◌, length, replicate, MatchResult};
 ghost use Rattle.rows.specs.Meaning.{row_answer, fit_answer, FitBy, end_answer, bounds_answer, words_answer, left_by, zeroed};
 
 use crate::refusal::RowsRefusal;
 use crate::room::Room;
+use crate::row::RowIndex;
 
-// The row, unless it is above 7.
-pub fn known_row(row: u32) -> Result<usize, RowsRefusal>
-    ensures answer { result ≡ row_answer row }
-    ensures low { IfOk result (λ n. n < 8) }
+// The row, unless it is above 7. A function and no `TryFrom`: it is one of the tests of a store, with its refusal.
+pub fn known_row(row: u32) -> Result<RowIndex, RowsRefusal>
+    ensures { MatchResult result (λ r. row_answer row ≡ Ok r.index) (λ e. row_answer row ≡ Err e) }
 {
     if row > 7 {
         return Err(RowsRefusal::NoSuchRow);
     }
-    Ok(row as usize)
+    Ok(RowIndex {
+        index: row as usize,
+    })
 }
 
 // Whether a row of so many puts and bits takes one put more, of `count` bits.
@@ -73,20 +75,11 @@ pub fn room_if(checked: Result<(), RowsRefusal>, room: Room) -> Room
     }
 }
 
-fn zero_at(words: &mut [u64], i: usize)
-    requires { i < length words.old }
-    ensures { words.new ≡ slice_set words.old i 0 }
-{
-    words[i] = 0;
-}
-
 // Sets the first n words to 0, or all where there are fewer.
 pub fn zero_front(words: &mut [u64], n: usize)
     ensures front { n ≤ length words.old → words.new ≡ zeroed n words.old }
     ensures all { length words.old ≤ n → words.new ≡ replicate (length words.old) 0 }
 {
     let end = n.min(words.len());
-    for i in 0..end {
-        zero_at(words, i);
-    }
+    words[..end].fill(0);
 }

@@ -5,33 +5,25 @@ ghost use Rattle.rows.specs.Refusals.{rows_refusal_number};
 #[derive(Clone, Copy, Debug, PartialEq, Eq)]
 pub enum RowsRefusal {
     // room for no put or for more than 512, for no bit or for more than 33,554,432
-    RoomOutOfBounds,
+    RoomOutOfBounds = 21,
     // fewer words than a store of this room uses
-    TooFewWords,
+    TooFewWords = 22,
     // a row above 7
-    NoSuchRow,
+    NoSuchRow = 23,
     // a put of no bit
-    EmptyPut,
+    EmptyPut = 24,
     // the row has taken as many puts as it has room for
-    PutsFull,
+    PutsFull = 25,
     // the row would become longer than it has room for
-    RowTooLong,
+    RowTooLong = 26,
     // a position past the row's end
-    PastEnd,
+    PastEnd = 27,
 }
 
 impl RowsRefusal {
     pub fn number(self) -> u32
         ensures { result ≡ rows_refusal_number self }
     {
-        match self {
-            RowsRefusal::RoomOutOfBounds => 21,
-            RowsRefusal::TooFewWords => 22,
-            RowsRefusal::NoSuchRow => 23,
-            RowsRefusal::EmptyPut => 24,
-            RowsRefusal::PutsFull => 25,
-            RowsRefusal::RowTooLong => 26,
-            RowsRefusal::PastEnd => 27,
-        }
+        self as u32
     }
 }

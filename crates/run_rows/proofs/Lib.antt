@@ -1,4 +1,3 @@
-pub mod RunGood
 pub mod RunPuts
 pub mod RunZeros
 pub mod RunMade

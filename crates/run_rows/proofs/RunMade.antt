@@ -1,11 +1,11 @@
 -- Words that keep puts, set to 0.
-use Rattle.std.proofs.Common.{◌≡◌, ℕ, zero, suc, ◌+◌, ◌-◌, ◌*◌, true, eqb, List, ◌++◌, drop, replicate, sym, refl, ap, ◌∙◌, mul_comm, mul-suc, arith}
+use Rattle.std.proofs.Common.{length, ◌≡◌, ℕ, zero, suc, ◌+◌, ◌-◌, ◌*◌, ◌≤◌, true, eqb, List, ◌++◌, drop, replicate, sym, refl, ap, ◌∙◌, mul_comm, mul-suc, arith}
 use Rattle.std.proofs.lemmas.List.{append_assoc, length-replicate, replicate-append-replicate, take_at, drop_at}
 use Rattle.std.proofs.lemmas.Bool.{and_from}
 use Rattle.rows.specs.Meaning.{zeroed}
 use Rattle.rows.specs.declared.room.Room.{Room}
 use Rattle.run_rows.specs.RunWords.{blank, well_laid, run_used, run_wiped}
-use Rattle.run_rows.proofs.RunGood.{Good}
+use Rattle.run_rows.specs.RunTable.{Sound}
 use Rattle.run_rows.proofs.RunPuts.{from_parts}
 use Rattle.rows.proofs.Zeroed.{length-zeroed}
 
@@ -27,16 +27,14 @@ laid_blank most wide (suc k) rest =
       more = rw (drop_at (replicate most 0) (replicate (most * k) 0 ++ rest) most (length-replicate most 0)) (laid_blank most wide k rest);
     }))
 
-pub laid_zeroed : (most wide : ℕ) (ws : List ℕ) → well_laid most wide (zeroed (8 * most) ws) (replicate 8 0) ≡ true
+laid_zeroed : (most wide : ℕ) (ws : List ℕ) → well_laid most wide (zeroed (8 * most) ws) (replicate 8 0) ≡ true
 laid_zeroed most wide ws = rw (mul_comm 8 most) (laid_blank most wide 8 (drop (most * 8) ws))
 
-pub good_wiped : (room room' : Room) (ws ws' ps ps' : List ℕ) → Good room ws ps → room' ≡ room → ws' ≡ run_wiped room ws → ps' ≡ replicate 8 0 → Good room' ws' ps'
-good_wiped room room' ws ws' ps ps' g a b d =
-    let z : Good room (run_wiped room ws) (replicate 8 0) = record {
-      few = g.few;
-      narrow = g.narrow;
-      enough = rw (length-zeroed (run_used room) ws g.enough) g.enough;
-      eight = refl;
-      ok = laid_zeroed room.puts room.bits ws;
-    } in
-    rw (a, b, d) z
+pub sound_wiped : (room : Room) (ws : List ℕ) → room.puts ≤ 512 → room.bits ≤ 33554432 → run_used room ≤ length ws → Sound room (run_wiped room ws) (replicate 8 0)
+sound_wiped room ws few narrow enough = record {
+  few = few;
+  narrow = narrow;
+  enough = rw (length-zeroed (run_used room) ws enough) enough;
+  eight = refl;
+  ok = laid_zeroed room.puts room.bits ws;
+}

@@ -4,12 +4,11 @@ use Rattle.std.proofs.lemmas.Nat.{shr_high, mod_low, mul-le}
 use Rattle.std.proofs.lemmas.List.{append_assoc, append-nil, length-append, length-replicate, length-set, take_more_set, take-set-le, drop-set-lt, drop-set-add, length-drop, drop_more}
 use Rattle.std.proofs.lemmas.Bool.{and_parts, and_from, or_left, or_right, lt-ltb, le-leb, eq-eqb, ne_eqb}
 use Rattle.rows.specs.declared.room.Room.{Room}
-use Rattle.rows.specs.Meaning.{Row, row_at, zeros_in, fit_answer, longer, with_put}
+use Rattle.rows.specs.Meaning.{Row, row_at, zeros_in, FitBy, longer, with_put}
 use Rattle.run_rows.specs.RunWords.{end_of, zeros_of, run, bits_from, last_word, follows, chained, blank, well_laid, run_rows, run_wrote}
 use Rattle.run_rows.specs.RunChains.{Step, step_from, FirstRow, next_row, laid_parts, laid_at, filled, last_fits, rows_at, length-bits}
-use Rattle.run_rows.proofs.RunGood.{Good}
+use Rattle.run_rows.specs.RunTable.{Sound}
 use Rattle.run_rows.specs.RunLaid.{zeros_whole}
-use Rattle.rows.proofs.Admits.{Admits, admits}
 use Rattle.rows.specs.ZeroCounts.{zeros-++, zeros-run}
 
 -- ---- a word and a row that the rules of the layout hold of
@@ -170,7 +169,7 @@ zeros_all wide d (w ∷ ws) e =
     let p = and_parts (follows wide d w) (chained wide w ws) e in
     omega (arith, zeros_whole wide d w (step_from wide d w p.0), zeros-++ (run d w) (bits_from w ws), zeros_all wide w ws p.1)
 
-module _ (room : Room) (ws ps : List ℕ) (row last : ℕ) (good : Good room ws ps) (is : last ≡ last_word 0 (filled room.puts ws ps row)) where
+module _ (room : Room) (ws ps : List ℕ) (row last : ℕ) (good : Sound room ws ps) (is : last ≡ last_word 0 (filled room.puts ws ps row)) where
   abbrev rows : List Row
   rows = run_rows room.puts ws ps
 
@@ -197,21 +196,18 @@ module _ (room : Room) (ws ps : List ℕ) (row last : ℕ) (good : Good room ws 
   last_small = rw is (last_fits room.bits 0 (filled room.puts ws ps row) chain (omega arith))
 
   -- a put that is taken, with its word x
-  module _ (bit : Bool) (count : ℕ) (low : row < 8) (taken : fit_answer room before.puts (length before.bits) count ≡ Ok tt) where
-    room_for : Admits room before.puts (length before.bits) count
-    room_for = admits room before.puts (length before.bits) count taken
-
+  module _ (bit : Bool) (count : ℕ) (low : row < 8) (taken : FitBy room before.puts (length before.bits) count (Ok tt)) where
     some : 0 < count
-    some = room_for.some
+    some = taken.0
 
     puts_is : before.puts ≡ get_or ps row 0
     puts_is = ap (λ (r : Row). r.puts) (rows_at room.puts ws ps row)
 
     pub left : get_or ps row 0 < room.puts
-    left = omega (arith, room_for.left, puts_is)
+    left = omega (arith, taken.1, puts_is)
 
     pub fits : end_of last + count ≤ room.bits
-    fits = omega (arith, room_for.fits, length_is)
+    fits = omega (arith, taken.2, length_is)
 
     abbrev i : ℕ
     i = room.puts * row + get_or ps row 0
@@ -226,8 +222,8 @@ module _ (room : Room) (ws ps : List ℕ) (row last : ℕ) (good : Good room ws 
       after : follows room.bits (last_word 0 (filled room.puts ws ps row)) x ≡ true
       after = rw (← is, x_is) (follows_put room.bits last count bit good.narrow some fits last_less)
 
-      good_put : Good room (set ws i x) (set ps row (get_or ps row 0 + 1))
-      good_put = record {
+      sound_put : Sound room (set ws i x) (set ps row (get_or ps row 0 + 1))
+      sound_put = record {
         few = good.few;
         narrow = good.narrow;
         enough = rw (length-set ws i x) good.enough;
@@ -250,8 +246,8 @@ module _ (room : Room) (ws ps : List ℕ) (row last : ℕ) (good : Good room ws 
 
       -- of the parts that are left
       module _ (room' : Room) (ws' ps' : List ℕ) (room_is : room' ≡ room) (ws_is : ws' ≡ set ws i x) (ps_is : ps' ≡ set ps row (get_or ps row 0 + 1)) where
-        pub good_after : Good room' ws' ps'
-        good_after = rw (room_is, ws_is, ps_is) good_put
+        pub sound_after : Sound room' ws' ps'
+        sound_after = rw (room_is, ws_is, ps_is) sound_put
 
         pub rows_after : run_rows room'.puts ws' ps' ≡ with_put rows row bit count
         rows_after = rw (room_is, ws_is, ps_is) rows_with_put

@@ -1,3 +1,5 @@
 pub mod RunWords
 pub mod RunChains
 pub mod RunLaid
+pub mod RunTable
+pub mod RunStore

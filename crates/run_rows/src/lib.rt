@@ -1,5 +1,6 @@
 #![tactic(auto)]
 // A store of bit rows over lent words that keeps its puts.
+mod mark;
 mod runs;
 
 pub use runs::RunRows;

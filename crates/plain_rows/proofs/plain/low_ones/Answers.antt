@@ -1,12 +1,8 @@
-use Rattle.std.proofs.Common.{◌≡◌, ℕ, ◌+◌, ◌-◌, ◌/◌, ◌^◌, ◌≤◌, sym, ap, ◌∙◌, arith}
-use Rattle.std.proofs.Math.Pow.{ones_split, ones_lt}
-use Rattle.std.proofs.lemmas.Nat.{shr_high}
+use Rattle.std.proofs.Common.{◌≡◌, ℕ, ◌-◌, ◌^◌, ap, ◌∙◌, arith}
+use Rattle.std.proofs.lemmas.Nat.Bits.{ones_shr}
 use Rattle.plain_rows.proofs.plain.low_ones.Goals as goal
 
-low : (k : ℕ) → k ≤ 64 → 18446744073709551615 / 2 ^ (64 - k) ≡ 2 ^ k - 1
-low k h =
-    let e : k + (64 - k) ≡ 64 = omega arith in
-    ap (λ (n : ℕ). (2 ^ n - 1) / 2 ^ (64 - k)) (sym e) ∙ ap (λ (n : ℕ). n / 2 ^ (64 - k)) (ones_split k (64 - k)) ∙ shr_high (2 ^ k - 1) (64 - k) (2 ^ (64 - k) - 1) (ones_lt (64 - k))
-
 pub returns : goal.returns
-returns c = low c.args.k c.requires.1
+returns c =
+    let e : 64 - (64 - c.args.k) ≡ c.args.k = omega (arith, c.requires.1) in
+    ones_shr 64 (64 - c.args.k) (omega arith) ∙ ap (λ (n : ℕ). 2 ^ n - 1) e

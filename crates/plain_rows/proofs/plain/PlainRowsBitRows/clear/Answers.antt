@@ -1,27 +1,11 @@
-use Rattle.std.proofs.Common.{ap, ◌∙◌}
-use Rattle.plain_rows.specs.declared.plain.PlainRows.{PlainRows}
-use Rattle.plain_rows.specs.PlainWords.{bit_words, plain_wiped}
-use Rattle.plain_rows.proofs.PlainMade.{sound_wiped, rows_none}
+use Rattle.plain_rows.proofs.PlainMade.{rows_none, sound_none}
 use Rattle.plain_rows.proofs.plain.PlainRowsBitRows.clear.Goals as goal
 
 pub invariant_of-self : goal.invariant_of-self
 invariant_of-self c =
     let s = c.args.self.now in
-    let t = c.empty.new.self in
-    let w = c.empty.ensures in
-    let v = c.replace-words.ensures.value in
-    let g = sound_wiped s.room t.room s.words.now t.words.now t.lengths t.taken s.few s.narrow s.enough
-    (w.room ∙ ap (λ (x : PlainRows). x.room) v) (w.words ∙ ap (λ (x : PlainRows). plain_wiped x.room x.words.now) v) w.lengths w.taken in
-    record { few = g.few; narrow = g.narrow; enough = g.enough; eight = g.eight; within = g.within; ok = g.ok }
+    let e = c.empty.ensures in
+    record { good = rw (e.room, e.words, e.rows) (sound_none s.table.room s.words.now s.good.few s.good.narrow s.good.enough) }
 
-pub returns : goal.returns
-returns c =
-    let t = c.empty.new.self in
-    let w = c.empty.ensures in
-    let v = c.replace-words.ensures.value in
-    record {
-      rows = rw (w.lengths, w.taken) (rows_none (bit_words t.room.bits) t.words.now);
-      limits = w.room ∙ ap (λ (x : PlainRows). x.room) v;
-      words = w.words ∙ ap (λ (x : PlainRows). plain_wiped x.room x.words.now) v;
-      place = w.place ∙ ap (λ (x : PlainRows). x.words.ghost_name) v;
-    }
+pub returns-clause-rows : goal.returns-clause-rows
+returns-clause-rows c = rw c.empty.ensures.rows (rows_none _ _)

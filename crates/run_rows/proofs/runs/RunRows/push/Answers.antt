@@ -1,59 +1,59 @@
-use Rattle.std.proofs.Common.{◌+◌, ◌*◌, get_or, set, ap, ◌∙◌, arith}
-use Rattle.run_rows.specs.declared.runs.RunRows.{RunRows}
-use Rattle.run_rows.proofs.RunGood.{good}
-use Rattle.run_rows.proofs.RunPuts.{last_less, left, fits, in_words, good_after, rows_after, words_put}
+use Rattle.std.proofs.Common.{◌≡◌, ◌+◌, ◌*◌, cond, refl, ◌∙◌, arith}
+use Rattle.run_rows.specs.RunWords.{end_of, zeros_of, last_word}
+use Rattle.run_rows.specs.RunTable.{filled_of}
+use Rattle.run_rows.proofs.RunPuts.{last_less, left, fits, in_words, sound_after, rows_after, words_put}
 use Rattle.run_rows.proofs.runs.RunRows.push.Goals as goal
 
-pub next_word-word-requires : goal.next_word-word-requires
-next_word-word-requires c =
-    let s = c.args.self.now in
-    let l = c.last in
+pub next_mark-mark-requires : goal.next_mark-mark-requires
+next_mark-mark-requires c =
+    let s = c.args.self.now.table in
+    let row = c.args.row in
+    let w = last_word 0 (filled_of s c.args.self.now.words.now row.index) in
+    let good = c.args.self.now.good in
+    let l = c.last.ensures in
     record {
-      short = omega (arith, fits s.room s.words.now s.taken c.args.row l.result (good s) l.ensures c.args.bit c.args.count c.requires.low c.requires.taken, s.narrow);
-      low = last_less s.room s.words.now s.taken c.args.row l.result (good s) l.ensures;
+      short = omega (arith, l.end, good.narrow, fits s.room c.args.self.now.words.now s.taken row.index w good refl c.args.bit c.args.count row.low c.requires);
+      low = rw (l.end, l.zeros) (last_less s.room c.args.self.now.words.now s.taken row.index w good refl);
     }
 
 pub append-requires : goal.append-requires
 append-requires c =
-    let s = c.args.self.now in
-    let l = c.last in
-    rw c.replace-words.ensures.value (record {
-      low = c.requires.low;
-      few = omega (arith, left s.room s.words.now s.taken c.args.row l.result (good s) l.ensures c.args.bit c.args.count c.requires.low c.requires.taken, s.few);
-      inside = in_words s.room s.words.now s.taken c.args.row l.result (good s) l.ensures c.args.bit c.args.count c.requires.low c.requires.taken;
-    })
+    let s = c.args.self.now.table in
+    let row = c.args.row in
+    let w = last_word 0 (filled_of s c.args.self.now.words.now row.index) in
+    let good = c.args.self.now.good in
+    record {
+      few = omega (arith, good.few, left s.room c.args.self.now.words.now s.taken row.index w good refl c.args.bit c.args.count row.low c.requires);
+      inside = in_words s.room c.args.self.now.words.now s.taken row.index w good refl c.args.bit c.args.count row.low c.requires;
+    }
 
 pub invariant_of-self : goal.invariant_of-self
 invariant_of-self c =
-    let s = c.args.self.now in
-    let row = c.args.row in
+    let s = c.args.self.now.table in
     let t = c.append.new.self in
+    let row = c.args.row in
+    let w = last_word 0 (filled_of s c.args.self.now.words.now row.index) in
+    let good = c.args.self.now.good in
+    let l = c.last.ensures in
+    let n = c.next_mark-mark.ensures in
     let a = c.append.ensures in
-    let v = c.replace-words.ensures.value in
-    let l = c.last in
-    let w = c.next_word-word in
-    let g = good_after s.room s.words.now s.taken row l.result (good s) l.ensures c.args.bit c.args.count c.requires.low c.requires.taken w.result w.ensures
-    t.room t.words.now t.taken (a.room ∙ ap (λ (x : RunRows). x.room) v)
-    (a.words ∙ ap (λ (x : RunRows). set x.words.now (x.room.puts * row + get_or x.taken row 0) w.result) v)
-    (a.taken ∙ ap (λ (x : RunRows). set x.taken row (get_or x.taken row 0 + 1)) v) in
-    record { few = g.few; narrow = g.narrow; enough = g.enough; eight = g.eight; ok = g.ok }
+    let x_is : c.from.result ≡ (end_of w + c.args.count) * 4294967296 + (zeros_of w + cond c.args.bit 0 c.args.count) = c.from.ensures ∙ rw (n.end, n.zeros, l.end, l.zeros) refl in
+    record { good = sound_after s.room c.args.self.now.words.now s.taken row.index w good refl c.args.bit c.args.count row.low c.requires c.from.result x_is t.room c.append.new.words t.taken a.room a.words a.taken }
 
 pub returns : goal.returns
 returns c =
-    let s = c.args.self.now in
-    let row = c.args.row in
+    let s = c.args.self.now.table in
     let t = c.append.new.self in
+    let row = c.args.row in
+    let w = last_word 0 (filled_of s c.args.self.now.words.now row.index) in
+    let good = c.args.self.now.good in
+    let l = c.last.ensures in
+    let n = c.next_mark-mark.ensures in
     let a = c.append.ensures in
-    let v = c.replace-words.ensures.value in
-    let l = c.last in
-    let w = c.next_word-word in
-    let room_is = a.room ∙ ap (λ (x : RunRows). x.room) v in
-    let ws_is = a.words ∙ ap (λ (x : RunRows). set x.words.now (x.room.puts * row + get_or x.taken row 0) w.result) v in
-    let ps_is = a.taken ∙ ap (λ (x : RunRows). set x.taken row (get_or x.taken row 0 + 1)) v in
+    let x_is : c.from.result ≡ (end_of w + c.args.count) * 4294967296 + (zeros_of w + cond c.args.bit 0 c.args.count) = c.from.ensures ∙ rw (n.end, n.zeros, l.end, l.zeros) refl in
     record {
-      rows = rows_after s.room s.words.now s.taken row l.result (good s) l.ensures c.args.bit c.args.count c.requires.low c.requires.taken w.result w.ensures
-          t.room t.words.now t.taken room_is ws_is ps_is;
-      limits = room_is;
-      words = ws_is ∙ words_put s.room s.words.now s.taken row l.result (good s) l.ensures c.args.bit c.args.count c.requires.low c.requires.taken w.result w.ensures;
-      place = a.place ∙ ap (λ (x : RunRows). x.words.ghost_name) v;
+      rows = rows_after s.room c.args.self.now.words.now s.taken row.index w good refl c.args.bit c.args.count row.low c.requires c.from.result x_is t.room c.append.new.words t.taken a.room a.words a.taken;
+      limits = a.room;
+      words = a.words ∙ words_put s.room c.args.self.now.words.now s.taken row.index w good refl c.args.bit c.args.count row.low c.requires c.from.result x_is;
+      place = refl;
     }

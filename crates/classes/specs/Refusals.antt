@@ -8,5 +8,9 @@ class_refusal_number ZeroRequest = 11
 class_refusal_number AboveLargest = 12
 class_refusal_number NoSuchClass = 13
 
+-- the text of a refusal of this number
+abbrev pub refused_text : ℕ → List ℕ
+refused_text number = codes "refused " ++ decimal number
+
 abbrev pub class_refusal_text : ClassRefusal → List ℕ
-class_refusal_text e = codes "refused " ++ decimal (class_refusal_number e)
+class_refusal_text e = refused_text (class_refusal_number e)

@@ -1,5 +1,5 @@
 -- The output of a run is one text for each line, in their order.
-use Rattle.std.proofs.Common.{◌≡◌, ℕ, zero, suc, ◌+◌, ◌<◌, ◌≤◌, List, [], ◌∷◌, ◌++◌, length, get_or, IfOk, Ok, Err, string_bytes, Result, String, sym, refl, ap, ◌∙◌, subst, arith, MatchResult}
+use Rattle.std.proofs.Common.{◌≡◌, ℕ, zero, suc, ◌+◌, ◌<◌, ◌≤◌, List, [], ◌∷◌, ◌++◌, length, get_or, IfOk, Ok, Err, string_bytes, Result, String, sym, refl, ap, ◌∙◌, subst, arith}
 use Rattle.std.specs.List.{flat_map}
 use Rattle.std.specs.declared.alloc.Global.{Global}
 use Rattle.std.proofs.lemmas.Bool.{le-ltb}
@@ -9,8 +9,8 @@ use Rattle.profile.specs.Stands.{setting}
 use Rattle.lines.specs.Answering.{answered, after_line, reply_line, replies, run_of, transcript_of, before, InOrder}
 use Rattle.lines.specs.Lines.{lines_of}
 use Rattle.lines.specs.Reading.{reads}
+use Rattle.lines.specs.Showing.{MadeOrNoMemory}
 use Rattle.lines.specs.declared.error.TextError.{TextError}
-use Rattle.lines.specs.declared.error.TextError.TheVariants.{NoMemory}
 
 -- the texts from a place on
 abbrev texts_of : Setting → History → ℕ → List (List ℕ) → List (List ℕ)
@@ -43,7 +43,7 @@ run_in_order input = record {
 }
 
 -- the same of the text that was made
-pub in_order : (input : List ℕ) (r : Result (String Global) TextError) → MatchResult r (λ t. string_bytes t ≡ transcript_of input) (λ e. e ≡ NoMemory) →
+pub in_order : (input : List ℕ) (r : Result (String Global) TextError) → MadeOrNoMemory r (λ t. string_bytes t ≡ transcript_of input) →
     IfOk r (λ t. length input ≤ 32768 → InOrder (setting sixteens) (lines_of input) (string_bytes t))
 in_order input (Err e) is = tt
 in_order input (Ok t) is = λ short.

@@ -1,11 +1,12 @@
 -- `reads` is the relation `Written`, both ways.
-use Rattle.std.proofs.Common.{◌≡◌, ℕ, ◌<◌, true, eqb, ltb, List, [], ◌∷◌, ◌++◌, length, take, Ok, Err, Result, sym, refl, ap, ◌∙◌, one-add, arith, length-take, MatchResult}
+use Rattle.std.proofs.Common.{◌≡◌, ℕ, ◌<◌, true, eqb, List, [], ◌∷◌, ◌++◌, length, take, Ok, Err, Result, sym, refl, ap, ◌∙◌, one-add, arith, length-take, MatchResult}
 use Rattle.std.specs.Str.Parse.{AllDigits}
 use Rattle.std.specs.Char.{is_ascii_digit, digit_value}
 use Rattle.std.specs.List.{prefix_len}
 use Rattle.std.proofs.lemmas.List.{take-append-drop, take_at, drop_at}
 use Rattle.std.proofs.lemmas.Str.Parse.{digit_from_value}
 use Rattle.std.proofs.lemmas.List.Sums.{prefix_len-le-length}
+use Rattle.std.proofs.lemmas.Bool.Decides.{nat_tests}
 use Rattle.std.proofs.lemmas.Bool.{cond_both, eqb-true, and_from, le-leb, le-ltb, ne_eqb}
 use Rattle.lines.specs.Reading.{Read, one_to_nine, number_at, last, two_numbers, reads}
 use Rattle.profile.specs.Passing.{onward}
@@ -14,7 +15,7 @@ use Rattle.lines.specs.declared.call.Call.{Call}
 use Rattle.lines.specs.declared.call.Call.TheVariants.{Note}
 use Rattle.lines.specs.declared.refusal.LineRefusal.{LineRefusal}
 use Rattle.lines.specs.declared.refusal.LineRefusal.TheVariants.{Unreadable}
-use Rattle.lines.proofs.Digits.{front_digits, within_nine, refused_not_read}
+use Rattle.lines.proofs.Digits.{front_digits, within_nine}
 
 -- what is read keeps Q, and all else is unreadable
 abbrev Reads : {A : Type 0} → (A → Type 0) → Read A → Type 0
@@ -32,7 +33,7 @@ last_reads x (c ∷ cs) Q s = refl
 -- what is read is written
 
 nine_reads : (k : ℕ) → Reads (λ n. n ≡ k) (one_to_nine k)
-nine_reads k = cond_both (eqb k 0) _ _ (Reads (λ n. n ≡ k)) (λ _. refl) (λ _. cond_both (ltb 9 k) _ _ (Reads (λ n. n ≡ k)) (λ _. refl) (λ _. refl))
+nine_reads k = grind (arith, nat_tests)
 
 abbrev Front : List ℕ → ℕ × List ℕ → Type 0
 Front text p = (ds : List ℕ) × Writes ds p.0 × (text ≡ 32 ∷ (ds ++ p.1))
@@ -103,7 +104,7 @@ written_reads line (Note b c) h = ap reads h.1 ∙ rw (two_read b c h.0 h.2) ref
 by_cases : (line : List ℕ) (r : Result Call LineRefusal) → reads line ≡ r → Reads (Written line) r → WrittenBy line r
 by_cases line (Ok x) e h = (h, λ y w. let z : Ok y ≡ Ok x = sym (written_reads line y w) ∙ e in cc)
 by_cases line (Err f) e h =
-    (h, λ x w. refused_not_read f x (sym e ∙ written_reads line x w))
+    (h, λ x w. let z : Err f ≡ Ok x = sym e ∙ written_reads line x w in cc)
 
 pub written_by : (line : List ℕ) → WrittenBy line (reads line)
 written_by line = by_cases line (reads line) refl (reads_written line)

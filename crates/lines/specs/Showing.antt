@@ -1,6 +1,8 @@
 -- The line that shows an answer or a refusal, with its end, and the text of an error.
-use Rattle.std.specs.Prelude.{ℕ, List, [], ◌∷◌, ◌++◌, codes, decimal}
+use Rattle.std.specs.Prelude.{◌≡◌, ℕ, List, [], ◌∷◌, ◌++◌, codes, decimal, Result, MatchResult}
+use Rattle.classes.specs.Refusals.{refused_text}
 use Rattle.lines.specs.Refusals.{line_refusal_number}
+use Rattle.lines.specs.declared.refusal.LineRefusal.{LineRefusal}
 use Rattle.lines.specs.declared.error.TextError.{TextError}
 use Rattle.lines.specs.declared.error.TextError.TheVariants.{Refused, NoMemory}
 use Rattle.lines.specs.declared.call.Answer.{Answer}
@@ -22,6 +24,13 @@ answer_line (Noted n) = shown_line 110 (n ∷ [])
 abbrev pub refusal_line : ℕ → ℕ → List ℕ
 refusal_line place number = shown_line 33 (place ∷ number ∷ [])
 
+abbrev pub refusal_text : LineRefusal → List ℕ
+refusal_text e = refused_text (line_refusal_number e)
+
 abbrev pub error_text : TextError → List ℕ
-error_text (Refused e) = codes "refused " ++ decimal (line_refusal_number e)
+error_text (Refused e) = refusal_text e
 error_text NoMemory = codes "out of memory"
+
+-- P of what was made, or memory did not suffice
+abbrev pub MadeOrNoMemory : {A : Type 0} → Result A TextError → (A → Type 0) → Type 0
+MadeOrNoMemory r P = MatchResult r P (λ e. e ≡ NoMemory)

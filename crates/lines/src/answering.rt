@@ -9,7 +9,7 @@ use crate::call::{Answer, Call};
 use crate::error::TextError;
 use crate::reading::read;
 use crate::refusal::LineRefusal;
-use crate::showing::{refuse, show};
+use crate::showing::{RefusedLine, show};
 use classes::SizeClasses;
 use profile::Profile;
 
@@ -18,8 +18,7 @@ pub fn answer<P: SizeClasses>(profile: &mut Profile<P>, line: &[u8]) -> Result<A
     ensures told { Told P.blocks profile.old profile.new (λ s h. after_line s h (reads line.now)) (λ s h. answered s h (reads line.now)) result }
     ensures refused { is_ok result ≡ false → profile.new ≡ profile.old }
 {
-    let call = read(line)?;
-    match call {
+    match read(line)? {
         Call::Note { bytes, count } => {
             let held = profile.note(bytes, count)?;
             Ok(Answer::Noted(held))
@@ -37,7 +36,7 @@ pub(crate) fn reply<P: SizeClasses>(
     ensures { Replied P.blocks profile.old profile.new place line.now (string_bytes out.old) (string_bytes out.new) result }
 {
     match answer(profile, line) {
-        Ok(answer) => show(out, answer),
-        Err(refusal) => refuse(out, place, refusal),
+        Ok(answer) => show(out, &answer),
+        Err(refusal) => show(out, &RefusedLine { place, refusal }),
     }
 }

@@ -33,11 +33,8 @@ impl fmt::Display for TextError {
     ghost output = { λ x. Some (error_text x) };
 
     fn fmt<W: fmt::Write>(&self, f: &mut fmt::Formatter<W>) -> fmt::Result {
-        match *self {
-            Self::Refused(inner) => {
-                let number = inner.number();
-                write!(f, "refused {number}")
-            }
+        match self {
+            Self::Refused(refusal) => write!(f, "{refusal}"),
             Self::NoMemory => write!(f, "out of memory"),
         }
     }

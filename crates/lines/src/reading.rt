@@ -13,12 +13,7 @@ use crate::refusal::LineRefusal;
 fn digits(text: &[u8]) -> usize
     ensures { result ≡ prefix_len is_ascii_digit text.now }
 {
-    for (i, byte) in text.iter().enumerate() {
-        if !byte.is_ascii_digit() {
-            return i;
-        }
-    }
-    text.len()
+    text.iter().take_while(|byte| byte.is_ascii_digit()).count()
 }
 
 // The number that at most nine digits write.
@@ -27,29 +22,26 @@ fn value(figures: &[u8]) -> u32
     requires short { length figures.now ≤ 9 }
     ensures { result ≡ value10 10 figures.now }
 {
-    let mut n = 0;
-    for figure in figures {
-        n = n * 10 + u32::from(*figure - b'0');
-    }
-    n
+    figures
+        .iter()
+        .fold(0, |n, figure| n * 10 + u32::from(*figure - b'0'))
 }
 
 // How many digits the number at the front has: one to nine.
 fn number_length(text: &[u8]) -> Result<usize, LineRefusal>
     ensures { result ≡ one_to_nine (prefix_len is_ascii_digit text.now) }
 {
-    let n = digits(text);
-    if n == 0 || n > 9 {
-        return Err(LineRefusal::Unreadable);
+    match digits(text) {
+        n @ 1..=9 => Ok(n),
+        _ => Err(LineRefusal::Unreadable),
     }
-    Ok(n)
 }
 
 // A space and a number at the front, with what follows them.
 fn number(text: &[u8]) -> Result<(u32, &[u8]), LineRefusal>
     ensures { MatchResult result (λ x. number_at text.now ≡ Ok (x.0, x.1.now)) (λ e. number_at text.now ≡ Err e) }
 {
-    let Some((b' ', rest)) = text.split_first() else {
+    let [b' ', rest @ ..] = text else {
         return Err(LineRefusal::Unreadable);
     };
     let n = number_length(rest)?;
@@ -74,11 +66,8 @@ fn two_numbers(text: &[u8]) -> Result<(u32, u32), LineRefusal>
 fn by_letter(line: &[u8]) -> Result<Call, LineRefusal>
     ensures { result ≡ reads line.now }
 {
-    let Some((letter, rest)) = line.split_first() else {
-        return Err(LineRefusal::Unreadable);
-    };
-    match *letter as char {
-        'n' => {
+    match line {
+        [b'n', rest @ ..] => {
             let (bytes, count) = two_numbers(rest)?;
             Ok(Call::Note { bytes, count })
         }

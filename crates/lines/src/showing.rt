@@ -1,8 +1,7 @@
 // Shows an answer or a refusal as a line of text.
-ghost use Rattle.std.specs.Prelude.{◌≡◌, ◌++◌, Some, string_bytes, MatchResult};
+ghost use Rattle.std.specs.Prelude.{◌≡◌, ◌++◌, Some, IfSome, string_bytes};
+ghost use Rattle.lines.specs.Showing.{answer_line, refusal_line, MadeOrNoMemory};
 ghost use Rattle.lines.specs.Refusals.{line_refusal_number};
-ghost use Rattle.lines.specs.Showing.{answer_line, refusal_line};
-ghost use Rattle.lines.specs.declared.error.TextError.TheVariants.{NoMemory};
 
 use crate::call::Answer;
 use crate::error::TextError;
@@ -21,17 +20,27 @@ impl fmt::Display for Answer {
     }
 }
 
-pub(crate) fn show(out: &mut String, answer: Answer) -> Result<(), TextError>
-    ensures { MatchResult result (λ _. string_bytes out.new ≡ string_bytes out.old ++ answer_line answer) (λ e. e ≡ NoMemory) }
-{
-    write!(out, "{answer}").map_err(fmt::Error::from)?;
-    Ok(())
+// The refusal of the line at a place.
+#[derive(Clone, Copy)]
+pub(crate) struct RefusedLine {
+    pub(crate) place: u32,
+    pub(crate) refusal: LineRefusal,
 }
 
-pub(crate) fn refuse(out: &mut String, place: u32, refusal: LineRefusal) -> Result<(), TextError>
-    ensures { MatchResult result (λ _. string_bytes out.new ≡ string_bytes out.old ++ refusal_line place (line_refusal_number refusal)) (λ e. e ≡ NoMemory) }
+impl fmt::Display for RefusedLine {
+    ghost output = { λ x. Some (refusal_line x.place (line_refusal_number x.refusal)) };
+
+    fn fmt<W: fmt::Write>(&self, f: &mut fmt::Formatter<W>) -> fmt::Result {
+        let place = self.place;
+        let number = self.refusal.number();
+        writeln!(f, "! {place} {number}")
+    }
+}
+
+// Writes what is shown at the end of the text.
+pub(crate) fn show<T: fmt::Display>(out: &mut String, line: &T) -> Result<(), TextError>
+    ensures { MadeOrNoMemory result (λ _. IfSome (T.output line.now) (λ text. string_bytes out.new ≡ string_bytes out.old ++ text)) }
 {
-    let number = refusal.number();
-    writeln!(out, "! {place} {number}").map_err(fmt::Error::from)?;
+    write!(out, "{line}").map_err(fmt::Error::from)?;
     Ok(())
 }

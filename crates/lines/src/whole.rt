@@ -1,32 +1,26 @@
 // The whole text that answers a whole input.
-ghost use Rattle.std.specs.Prelude.{◌≡◌, ◌<◌, ◌≤◌, ◌∷◌, length, IfOk, string_bytes, MatchResult};
+ghost use Rattle.std.specs.Prelude.{◌≡◌, ◌≤◌, ℕ, List, [], ◌∷◌, ◌++◌, length, IfOk, string_bytes, MatchResult};
 ghost use Rattle.classes.specs.Sixteens.{sixteens};
 ghost use Rattle.profile.specs.Stands.{setting};
 ghost use Rattle.lines.specs.Answering.{input_answer, transcript_of, InOrder};
-ghost use Rattle.lines.specs.Lines.{lines_of, CutInto};
+ghost use Rattle.lines.specs.Lines.{lines_of, Endless, CutInto};
 ghost use Rattle.lines.specs.Replying.{Ran, Stopped};
-ghost use Rattle.lines.specs.declared.error.TextError.TheVariants.{NoMemory};
+ghost use Rattle.lines.specs.Showing.{MadeOrNoMemory};
 
 use crate::answering::reply;
 use crate::error::TextError;
 use crate::refusal::LineRefusal;
-use crate::showing::refuse;
+use crate::showing::{RefusedLine, show};
 use classes::Sixteens;
 use profile::Profile;
 use std::alloc::Global;
 
-// The first line, without its end, and what follows it.
-fn split_line(text: &[u8]) -> (&[u8], &[u8])
-    requires { 1 ≤ length text.now }
-    ensures lines { lines_of text.now ≡ result.0.now ∷ lines_of result.1.now }
-    ensures shorter { length result.1.now < length text.now }
+// The line that these bytes are, without its end.
+fn without_end(bytes: &[u8]) -> &[u8]
+    ensures ended { (line : List ℕ) → bytes.now ≡ line ++ (10 ∷ []) → result.now ≡ line }
+    ensures endless { Endless bytes.now → result.now ≡ bytes.now }
 {
-    for (i, byte) in text.iter().enumerate() {
-        if *byte == b'\n' {
-            return (&text[0..i], &text[i + 1..]);
-        }
-    }
-    text.split_at(text.len())
+    bytes.strip_suffix(b"\n").unwrap_or(bytes)
 }
 
 // Whether the input is short enough to be run.
@@ -46,35 +40,29 @@ fn run(heap: Global, input: &[u8]) -> Result<String, TextError>
     within(input)?;
     let mut out = String::new(heap);
     let mut profile = Profile::new(Sixteens);
-    let mut place = 1;
-    let mut rest = input;
-    while !rest.is_empty() {
-        let (line, after) = split_line(rest);
-        reply(&mut profile, &mut out, place, line)?;
-        place += 1;
-        rest = after;
+    for (place, bytes) in (1..).zip(input.split_inclusive(|byte| *byte == b'\n')) {
+        reply(&mut profile, &mut out, place, without_end(bytes))?;
     }
     Ok(out)
 }
 
 // The text of a run, or the one line that says why there was none.
 fn text_of(heap: Global, input: &[u8]) -> Result<String, TextError>
-    ensures { MatchResult result (λ t. string_bytes t ≡ transcript_of input.now) (λ e. e ≡ NoMemory) }
+    ensures { MadeOrNoMemory result (λ t. string_bytes t ≡ transcript_of input.now) }
 {
     match run(heap, input) {
-        Ok(out) => Ok(out),
         Err(TextError::Refused(refusal)) => {
             let mut out = String::new(heap);
-            refuse(&mut out, 0, refusal)?;
+            show(&mut out, &RefusedLine { place: 0, refusal })?;
             Ok(out)
         }
-        Err(TextError::NoMemory) => Err(TextError::NoMemory),
+        other => other,
     }
 }
 
 // The whole output of a whole input.
 pub fn transcript(heap: Global, input: &[u8]) -> Result<String, TextError>
-    ensures text { MatchResult result (λ t. string_bytes t ≡ transcript_of input.now) (λ e. e ≡ NoMemory) }
+    ensures text { MadeOrNoMemory result (λ t. string_bytes t ≡ transcript_of input.now) }
     ensures order { IfOk result (λ t. length input.now ≤ 32768 → InOrder (setting sixteens) (lines_of input.now) (string_bytes t)) }
     ensures lines { CutInto input.now (lines_of input.now) }
 {

@@ -1,3 +1,4 @@
+pub mod Slots
 pub mod Passing
 pub mod Refusals
 pub mod History

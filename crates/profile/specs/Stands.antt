@@ -1,5 +1,5 @@
 -- When a profile is what a history says, and what one call does to it.
-use Rattle.std.specs.Prelude.{◌≡◌, ℕ, ◌+◌, ◌≤◌, List, [], ◌∷◌, ◌++◌, map, length, take, Ok, Result, MatchResult}
+use Rattle.std.specs.Prelude.{◌≡◌, ℕ, ◌+◌, ◌≤◌, List, [], map, length, Ok, Result, MatchResult}
 use Rattle.std.specs.List.{AllByRecursion}
 use Rattle.classes.specs.Plan.{class_of}
 use Rattle.profile.specs.declared.pending.Record.{Record}
@@ -9,14 +9,11 @@ use Rattle.profile.specs.declared.refusal.Refusal.{Refusal}
 use Rattle.profile.specs.History.{Note, History, Setting}
 use Rattle.profile.specs.Noting.{weight, room_answer, Sound}
 use Rattle.profile.specs.Passing.{onward}
+use Rattle.profile.specs.Slots.{with_item}
 
 -- the setting of a profile over a plan with these blocks
 abbrev pub setting : List ℕ → Setting
 setting bs = record { blocks = bs; records = 64; total = 65536 }
-
--- the records in use
-abbrev pub held : Pending → List Record
-held p = take p.len p.records
 
 -- the record that a note is kept as
 abbrev pub kept_as : List ℕ → Note → Record
@@ -24,8 +21,7 @@ kept_as bs n = record { class = class_of bs n.bytes; count = n.count }
 
 -- the table has these notes, in their order, each by its class and count, and there was room for them
 pub record Kept (s : Setting) (ns : List Note) (p : Pending) : Type 0 where
-  pub long : p.len ≡ length ns
-  pub records : held p ≡ map (kept_as s.blocks) ns
+  pub records : p.records.items ≡ map (kept_as s.blocks) ns
   pub total : p.total ≡ weight ns
   pub sound : AllByRecursion (Sound s.blocks) ns
   pub few : length ns ≤ s.records
@@ -50,18 +46,16 @@ pub record Told {P A : Type 0} (blocks : P → List ℕ) (p q : Profile P) (afte
 abbrev pub Wherever : {P : Type 0} → (P → List ℕ) → Profile P → (Setting → History → Type 0) → Type 0
 Wherever blocks p law = (h : History) → Stands (setting_of blocks p) h p → law (setting_of blocks p) h
 
--- the steps of a note on the table
+-- the steps of a note on the pending records
 
 pub record Emptied (p : Pending) : Type 0 where
-  pub len : p.len ≡ 0
+  pub records : p.records.items ≡ []
   pub total : p.total ≡ 0
 
--- one record more, and this total
-pub record Pushed (p : Pending) (x : Record) (sum : ℕ) (q : Pending) : Type 0 where
-  pub len : q.len ≡ p.len + 1
-  pub held : held q ≡ held p ++ (x ∷ [])
-  pub total : q.total ≡ sum
+-- one record more
+abbrev pub grown : Pending → Record → Pending
+grown p x = record { records = with_item p.records x; total = p.total + x.count }
 
 pub record Added (records total : ℕ) (p : Pending) (x : Record) (r : Result ℕ Refusal) (q : Pending) : Type 0 where
-  pub answer : r ≡ onward (room_answer records total p.len p.total x.count) (λ _. Ok (p.len + 1))
-  pub after : MatchResult r (λ _. Pushed p x (p.total + x.count) q) (λ _. q ≡ p)
+  pub answer : r ≡ onward (room_answer records total (length p.records.items) p.total x.count) (λ _. Ok (length p.records.items + 1))
+  pub after : MatchResult r (λ _. q ≡ grown p x) (λ _. q ≡ p)

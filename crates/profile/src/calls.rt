@@ -8,12 +8,14 @@ use crate::noting::record_of;
 use crate::pending::Pending;
 use crate::profile::Profile;
 use crate::refusal::Refusal;
+use crate::room::Room;
 use classes::SizeClasses;
 
-// The room of a profile: the most records that it holds, and the most that their counts add up to.
-const RECORDS: u32 = 64;
-
-const TOTAL: u32 = 65_536;
+// The room of every profile.
+const ROOM: Room = Room {
+    records: 64,
+    total: 65_536,
+};
 
 impl<P: SizeClasses> Profile<P> {
     // A new profile over a plan: nothing is noted.
@@ -34,6 +36,6 @@ impl<P: SizeClasses> Profile<P> {
         ensures refused { is_ok result ≡ false → self.new ≡ self.old }
     {
         let item = record_of(&self.plan, bytes, count)?;
-        self.pending.add(item, RECORDS, TOTAL)
+        self.pending.add(item, ROOM)
     }
 }

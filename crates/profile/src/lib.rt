@@ -5,6 +5,8 @@ mod noting;
 mod pending;
 mod profile;
 mod refusal;
+mod room;
+mod table;
 
 pub use profile::Profile;
 pub use refusal::Refusal;

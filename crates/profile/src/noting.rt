@@ -1,20 +1,22 @@
-// The table of pending records: which request becomes which record, and whether there is room for it.
-ghost use Rattle.std.specs.Prelude.{◌≡◌, ◌<◌, ◌≤◌};
+// The pending records: which request becomes which record, and whether there is room for it.
+ghost use Rattle.std.specs.Prelude.{◌≡◌, length};
 ghost use Rattle.profile.specs.Noting.{count_answer, record_answer, room_answer};
-ghost use Rattle.profile.specs.Stands.{Emptied, Pushed, Added};
+ghost use Rattle.profile.specs.Stands.{Emptied, Added};
 
 use crate::pending::{Pending, Record};
 use crate::refusal::Refusal;
+use crate::room::Room;
+use crate::table::Table;
 use classes::SizeClasses;
 
 // A count from 1 to 65,535.
 fn counted(count: u32) -> Result<u16, Refusal>
     ensures { result ≡ count_answer count }
 {
-    if count == 0 || count > 65_535 {
-        return Err(Refusal::CountOutOfRange);
+    match u16::try_from(count) {
+        Ok(count) if count > 0 => Ok(count),
+        _ => Err(Refusal::CountOutOfRange),
     }
-    Ok(count as u16)
 }
 
 // The record that a request becomes.
@@ -24,6 +26,7 @@ pub(crate) fn record_of<P: SizeClasses>(plan: &P, bytes: u32, count: u32) -> Res
     let class = plan.class_of(bytes)?;
     let count = counted(count)?;
     Ok(Record {
+        // a plan has at most 256 classes: `u8::try_from` would add a refusal that never comes
         class: class as u8,
         count,
     })
@@ -34,43 +37,32 @@ impl Pending {
         ensures { Emptied result }
     {
         Pending {
-            records: [Record { class: 0, count: 0 }; 512],
-            len: 0,
+            records: Table::new(),
             total: 0,
         }
     }
 
-    // Refuses where there is no room for one record more of this count, among at most so many records of at most this total.
-    fn check_room(&self, count: u16, records: u32, total: u32) -> Result<(), Refusal>
-        ensures { result ≡ room_answer records total self.now.len self.now.total count }
+    // Refuses where there is no room for one record more of this count.
+    fn check_room(&self, count: u16, room: Room) -> Result<(), Refusal>
+        ensures { result ≡ room_answer room.records room.total (length self.now.records.items) self.now.total count }
     {
-        if self.len >= records {
+        if self.records.len() >= room.records {
             return Err(Refusal::RecordsFull);
         }
-        if u64::from(self.total) + u64::from(count) > u64::from(total) {
+        if u64::from(self.total) + u64::from(count) > u64::from(room.total) {
             return Err(Refusal::TotalTooLarge);
         }
         Ok(())
     }
 
-    // One record more; the total is still that of those before it.
-    fn push(&mut self, item: Record)
-        requires { self.old.len < 512 }
-        ensures { Pushed self.old item self.old.total self.new }
-    {
-        self.records[self.len as usize] = item;
-        self.len += 1;
-    }
-
     // One record more, if there is room for it; the number of records then held.
-    pub(crate) fn add(&mut self, item: Record, records: u32, total: u32) -> Result<u32, Refusal>
-        requires few { records ≤ 512 }
-        requires light { total ≤ 33554432 }
-        ensures { Added records total self.old item result self.new }
+    pub(crate) fn add(&mut self, item: Record, room: Room) -> Result<u32, Refusal>
+        ensures { Added room.records room.total self.old item result self.new }
     {
-        self.check_room(item.count, records, total)?;
-        self.push(item);
+        self.check_room(item.count, room)?;
+        self.records.push(item);
         self.total += u32::from(item.count);
-        Ok(self.len)
+        // at most 512: `u32::try_from` would add a refusal that never comes
+        Ok(self.records.len() as u32)
     }
 }

@@ -1,8 +1,8 @@
 // What is noted and not yet closed: a table of records in the order noted.
-ghost use Rattle.std.specs.Prelude.{◌≤◌};
+use crate::table::Table;
 
 // One noted record: so many requests of one size class.
-#[derive(Clone, Copy)]
+#[derive(Clone, Copy, Default)]
 pub(crate) struct Record {
     pub(crate) class: u8,
     pub(crate) count: u16,
@@ -10,9 +10,7 @@ pub(crate) struct Record {
 
 #[derive(Drop)]
 pub(crate) struct Pending {
-    pub(crate) records: [Record; 512],
-    pub(crate) len: u32,
+    pub(crate) records: Table<Record, 512>,
     // the sum of the counts
     pub(crate) total: u32,
-    ghost short: { len ≤ 512 },
 }

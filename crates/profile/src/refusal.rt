@@ -18,6 +18,7 @@ pub enum Refusal {
 }
 
 impl Refusal {
+    // A match, since the case that holds another refusal has that one's number and none of its own.
     pub fn number(self) -> u32
         ensures { result ≡ refusal_number self }
     {

@@ -6,17 +6,13 @@ use std::io::{Read, Write};
 // One byte more than is run, so that a longer input is seen to be longer.
 const KEPT: u64 = 32_769;
 
-fn run(rt: &HostRuntime) -> anyhow::Result<()> {
+fn main(rt: HostRuntime) -> anyhow::Result<()> {
     let heap = rt.alloc();
     let mut input = Vec::new(heap);
     rt.stdin().take(KEPT).read_to_end(&mut input)?;
     let text = transcript(heap, &input)?;
     rt.stdout().write_all(text.as_bytes())?;
     Ok(())
-}
-
-fn main(rt: HostRuntime) -> anyhow::Result<()> {
-    run(&rt)
 }
 
 #[cfg(test)]

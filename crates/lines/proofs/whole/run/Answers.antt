@@ -1,36 +1,30 @@
-use Rattle.std.proofs.Common.{length, sym, refl, ◌∙◌, append_assoc, append-nil, arith, true-eqb}
-use Rattle.std.proofs.lemmas.List.{nil_from_length}
+use Rattle.std.proofs.Common.{◌≡◌, ◌+◌, ◌∷◌, eqb, length, ap, append_assoc, length-append, arith, rules}
+use Rattle.std.proofs.lemmas.List.Sorted.{answers_always}
 use Rattle.classes.specs.Sixteens.{sixteens}
-use Rattle.profile.specs.History.{fresh}
 use Rattle.profile.specs.Stands.{setting}
 use Rattle.lines.specs.Answering.{after_line}
+use Rattle.lines.specs.Lines.{lines_of}
 use Rattle.lines.specs.Reading.{reads}
-use Rattle.lines.proofs.Cutting.{short_input}
+use Rattle.lines.proofs.Cutting.{next_line}
 use Rattle.lines.proofs.whole.run.Goals as goal
 
-pub loop-rest-init : goal.loop-rest-init
-loop-rest-init c = (
-  omega (arith, short_input (length c.args.input.now) c.in_ok-within.ensures),
-  (fresh, c.new-profile.ensures.stands, rw c.new-out.ensures.bytes refl),
-)
-
-pub loop-rest-preserved : goal.loop-rest-preserved
-loop-rest-preserved c =
-    let inv = c.loop-rest.invariant in
+pub loop-place-preserved : goal.loop-place-preserved
+loop-place-preserved c =
+    let inv = c.loop-place.invariant in
     let h = inv.1.0 in
+    let steps = c.in-Some.ensures.steps in
+    let cut = steps.1 in
+    let line = c.without_end.result.now in
+    let first = (cut.1.2 (λ b. eqb b 10) (answers_always _ _ _ (λ f a r f' called. search rules))).1 in
+    let lines : lines_of c.loop-place.place-iterator.b.rest.now ≡ line ∷ lines_of c.next.new.self.b.rest.now =
+    next_line _ _ _ line cut.1.0 cut.0 cut.1.1 first cut.2 c.without_end.ensures.ended c.without_end.ensures.endless in
+    let place : c.in-Some.place ≡ c.loop-place.place-iterator.a.start = omega (arith, steps.0) in
+    let next : c.next.new.self.a.start ≡ c.loop-place.place-iterator.a.start + 1 = omega (arith, steps.0) in
     let replied = c.in_ok-reply.ensures in (
-      omega (arith, inv.0, c.split_line.ensures.shorter),
+      omega (arith, inv.0, steps.0, cut.2, cut.1.1, ap length cut.0, length-append c.in-Some.bytes.now c.next.new.self.b.rest.now),
       (
-        after_line (setting sixteens) h (reads c.split_line.result.0.now),
+        after_line (setting sixteens) h (reads line),
         replied.stands h inv.1.1,
-        rw (replied.text h inv.1.1, append_assoc) (rw c.split_line.ensures.lines at inv.1.2),
+        rw (next, replied.text h inv.1.1, place, append_assoc) (rw lines at inv.1.2),
       ),
     )
-
-pub returns : goal.returns
-returns c =
-    let none = nil_from_length c.loop-rest.rest.now (true-eqb _ 0 c.loop-rest-test.ensures) in
-    record {
-      within = sym c.in_ok-within.ensures;
-      text = sym (append-nil _) ∙ (rw none at c.loop-rest.invariant.1.2);
-    }

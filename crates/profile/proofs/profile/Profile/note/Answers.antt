@@ -1,14 +1,5 @@
-use Rattle.profile.proofs.Notes.{told, unchanged, wherever}
+use Rattle.profile.proofs.Notes.{told}
 use Rattle.profile.proofs.profile.Profile.note.Goals as goal
 
-pub returns : goal.returns
-returns g c =
-    let bs = g.P.SizeClasses.blocks in
-    let p = c.args.self.now in
-    let is = c.in_ok-item.ensures in
-    let t = told bs p c.args.bytes c.args.count c.in_ok-item.item is c.add.result c.add.new.self c.add.ensures in
-    record {
-      told = t;
-      why = wherever bs p _ c.args.bytes c.args.count c.add.result t;
-      refused = unchanged bs p c.args.bytes c.args.count c.in_ok-item.item is c.add.result c.add.new.self c.add.ensures;
-    }
+pub returns-clause-told : goal.returns-clause-told
+returns-clause-told g c = told g.P.SizeClasses.blocks c.args.self.now c.args.bytes c.args.count c.in_ok-item.item c.in_ok-item.ensures c.add.result c.add.new.self c.add.ensures

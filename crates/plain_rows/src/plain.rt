@@ -102,6 +102,24 @@ fn write_run(words: &mut [u64], size: u32, bit: bool, count: u32)
 }
 
 impl Table {
+    // A table of no bit and no put, with the words in use set to 0.
+    fn over(room: Room, words: &mut [u64]) -> Table
+        requires few { room.puts ≤ 512 }
+        requires narrow { room.bits ≤ 33554432 }
+        requires enough { plain_used room ≤ length words.old }
+        ensures good { Good result words.new }
+        ensures rows { rows_of result words.new ≡ cleared }
+        ensures words { words.new ≡ plain_wiped room words.old }
+        ensures room { result.room ≡ room }
+    {
+        let mut table = Table {
+            room,
+            rows: [EMPTY; 8],
+        };
+        table.empty(words);
+        table
+    }
+
     // Appends `count` copies of a bit to a row, within one word.
     fn extend(&mut self, words: &mut [u64], row: RowIndex, bit: bool, count: u32)
         requires good { Good self.old words.old }
@@ -273,11 +291,7 @@ impl BitRows for PlainRows<'_> {
 impl<'a> LentRows<'a> for PlainRows<'a> {
     fn new(room: Room, words: &'a mut [u64]) -> PlainRows<'a> {
         let room = granted_room::<Self>(room, words);
-        let mut table = Table {
-            room,
-            rows: [EMPTY; 8],
-        };
-        table.empty(words);
+        let table = Table::over(room, words);
         PlainRows { words, table }
     }
 

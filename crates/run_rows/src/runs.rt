@@ -57,6 +57,24 @@ fn last_mark(words: &[u64]) -> Mark
 }
 
 impl Table {
+    // A table of no put, with the words in use set to 0.
+    fn over(room: Room, words: &mut [u64]) -> Table
+        requires few { room.puts ≤ 512 }
+        requires narrow { room.bits ≤ 33554432 }
+        requires enough { run_used room ≤ length words.old }
+        ensures good { Sound result.room words.new result.taken }
+        ensures rows { rows_of result words.new ≡ cleared }
+        ensures words { words.new ≡ run_wiped room words.old }
+        ensures room { result.room ≡ room }
+    {
+        let mut table = Table {
+            room,
+            taken: [0; 8],
+        };
+        table.empty(words);
+        table
+    }
+
     // The words of a row's puts.
     fn filled<'a>(&self, words: &'a [u64], row: RowIndex) -> &'a [u64]
         requires { Sound self.now.room words.now self.now.taken }
@@ -220,11 +238,7 @@ impl BitRows for RunRows<'_> {
 impl<'a> LentRows<'a> for RunRows<'a> {
     fn new(room: Room, words: &'a mut [u64]) -> RunRows<'a> {
         let room = granted_room::<Self>(room, words);
-        let mut table = Table {
-            room,
-            taken: [0; 8],
-        };
-        table.empty(words);
+        let table = Table::over(room, words);
         RunRows { words, table }
     }
 

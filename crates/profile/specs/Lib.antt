@@ -3,4 +3,5 @@ pub mod Passing
 pub mod Refusals
 pub mod History
 pub mod Noting
+pub mod Keeping
 pub mod Stands

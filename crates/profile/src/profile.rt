@@ -1,4 +1,6 @@
 // The profile of an allocator: its plan, and what is noted and not yet closed.
+ghost use Rattle.profile.specs.Keeping.{setting, KeepsSome};
+
 use crate::pending::Pending;
 use classes::SizeClasses;
 
@@ -6,4 +8,6 @@ use classes::SizeClasses;
 pub struct Profile<P: SizeClasses> {
     pub(crate) plan: P,
     pub(crate) pending: Pending,
+    // every profile stands at some history
+    ghost stands: { KeepsSome (setting (P.blocks plan)) pending },
 }

@@ -10,7 +10,7 @@ struct ListedRow {
     room: Room,
     bits: Vec<bool>,
     puts: u32,
-    // so the casts of a number of bits lose nothing, where `u32::try_from` would add a case that never comes
+    // so a cast of a number of bits loses nothing, where `u32::try_from` would add a case that never comes
     ghost short: { vec_len bits < 2 ^ 32 },
     ghost reserved: { room.bits ≤ vec_capacity bits },
 }
@@ -47,6 +47,7 @@ impl ListedRow {
     }
 
     fn length(&self) -> u32 {
+        // by `short` the cast loses nothing
         self.bits.len() as u32
     }
 
@@ -55,6 +56,7 @@ impl ListedRow {
             .bits
             .get(..position as usize)
             .ok_or(RowsRefusal::PastEnd)?;
+        // by `short` the cast loses nothing
         Ok(front.iter().filter(|&&bit| !bit).count() as u32)
     }
 }

@@ -9,5 +9,5 @@ pub struct Profile<P: SizeClasses> {
     pub(crate) plan: P,
     pub(crate) pending: Pending,
     // every profile stands at some history
-    ghost stands: { KeepsSome (setting (P.blocks plan)) pending },
+    pub ghost stands: { KeepsSome (setting (P.blocks plan)) pending },
 }

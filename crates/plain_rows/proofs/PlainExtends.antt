@@ -8,7 +8,7 @@ use Rattle.plain_rows.specs.declared.plain.Table.{Table}
 use borrow.Rule.Slice.PartMut.{put_mid}
 use Rattle.plain_rows.specs.PlainWords.{bit_words, plain_used, bits_of}
 use Rattle.plain_rows.specs.PlainTable.{Good, Grown, IsRow, filled_at, words_at, row_of, rows_of, extended}
-use Rattle.plain_rows.specs.PlainSound.{length-bits, eight_rows, row_is}
+use Rattle.plain_rows.specs.PlainSound.{length-bits, length-rows, row_is}
 use Rattle.plain_rows.proofs.PlainValues.{Halves, halves}
 use Rattle.plain_rows.proofs.PlainPuts.{Written, written, length_words, sound_after, rows_after}
 
@@ -85,7 +85,7 @@ module _ (row : ℕ) (bit : Bool) (a : ℕ) (s : Table) (ws : List ℕ) (t : Tab
 
   -- the row after a run
   pub grown_row : row_at (rows_of t vs) row ≡ extended R bit a
-  grown_row = ap (λ (q : List Row). get_or q row empty) l.rows ∙ get_or-set_same (rows_of s ws) row (extended R bit a) empty (omega (arith, eight_rows s ws))
+  grown_row = ap (λ (q : List Row). get_or q row empty) l.rows ∙ get_or-set_same (rows_of s ws) row (extended R bit a) empty (omega (arith, length-rows (bit_words s.room.bits) ws s.rows))
 
   pub grown_more : (b : ℕ) (u : Table) (us : List ℕ) → Grown row bit b t vs u us → Grown row bit (a + b) s ws u us
   grown_more b u us m =

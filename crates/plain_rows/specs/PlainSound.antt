@@ -25,9 +25,6 @@ pub row_is : (L : ℕ) (ws : List ℕ) (table : List Filled) (row : ℕ) → row
 unfolding plain_rows
 row_is L ws table row h = get_or-map-range_with_len (row_of L ws table) 0 8 row row empty h (omega arith)
 
-pub eight_rows : (t : Table) (ws : List ℕ) → length (rows_of t ws) ≡ 8
-eight_rows t ws = length-rows (bit_words t.room.bits) ws t.rows
-
 pub rows_within : (t : Table) (ws : List ℕ) → t.room.puts ≤ 512 → t.room.bits ≤ 33554432 →
     ((row : ℕ) → ((filled_at t.rows row).bits ≤ t.room.bits) × ((filled_at t.rows row).puts ≤ t.room.puts)) → Within t.room (rows_of t ws)
 rows_within t ws few narrow within =
@@ -36,7 +33,7 @@ rows_within t ws few narrow within =
     let low : (row : ℕ) → (row < 8) ⊎ (8 ≤ row) → (length (row_at rows row).bits ≤ t.room.bits) × ((row_at rows row).puts ≤ t.room.puts) =
     λ row. ⊎_elim
     (λ h. rw (row_is L ws t.rows row h, length-bits (words_at L ws row) (filled_at t.rows row).bits) (within row))
-    (λ h. rw (get_or_past rows row empty (rw (eight_rows t ws) h)) (omega arith, omega arith)) in
+    (λ h. rw (get_or_past rows row empty (rw (length-rows (bit_words t.room.bits) ws t.rows) h)) (omega arith, omega arith)) in
     record {
       few = few;
       narrow = narrow;

@@ -5,7 +5,7 @@ ghost use Rattle.std.specs.Prelude.{◌≡◌, ℕ, ◌+◌, ◌-◌, ◌*◌, �
 ghost use Rattle.rows.specs.Meaning.{row_at, cleared, FitBy, with_put, zeros_in};
 ghost use Rattle.plain_rows.specs.PlainWords.{PlainLaid, bit_words, plain_used, plain_wrote, plain_wiped, word, zeros_before, bits_of};
 ghost use Rattle.plain_rows.specs.PlainTable.{Good, Grown, IsRow, filled_at, rows_of};
-ghost use Rattle.plain_rows.specs.PlainSound.{eight_rows, rows_within, words_lie};
+ghost use Rattle.plain_rows.specs.PlainSound.{length-rows, rows_within, words_lie};
 
 use rows::{
     BitRows, Footprint, LentRows, Room, RowIndex, RowsRefusal, check_position, check_put,
@@ -243,7 +243,7 @@ impl BitRows for PlainRows<'_> {
 
     ghost limits = { λ s. s.table.room };
 
-    ghost eight = { λ s. eight_rows s.table s.words.now };
+    ghost eight = { λ s. length-rows (bit_words s.table.room.bits) s.words.now s.table.rows };
 
     ghost within = { λ s. rows_within s.table s.words.now s.good.few s.good.narrow s.good.within };
 

@@ -3,7 +3,9 @@
 ghost use Rattle.std.specs.Prelude.{◌≡◌, ◌+◌, ◌-◌, ◌*◌, ◌<◌, ◌≤◌, min, ◌∷◌, length, take, replicate, if◌then◌else◌, Ok, nat_le, slice_index, slice_set, refl};
 ghost use Rattle.rows.specs.Meaning.{row_at, cleared, FitBy, with_put, zeros_in, granted};
 ghost use Rattle.run_rows.specs.RunWords.{RunsLaid, end_of, zeros_of, last_word, run_used, run_wrote, run_wiped};
-ghost use Rattle.run_rows.specs.RunTable.{Sound, rows_of, filled_of, eight_rows, rows_within, words_lie};
+ghost use Rattle.run_rows.specs.RunTable.{Sound, rows_of, filled_of};
+ghost use Rattle.run_rows.specs.RunChains.{run_eight, run_within};
+ghost use Rattle.run_rows.specs.RunLaid.{run_words_lie};
 
 use crate::mark::Mark;
 use rows::{
@@ -191,9 +193,9 @@ impl BitRows for RunRows<'_> {
 
     ghost limits = { λ s. s.table.room };
 
-    ghost eight = { λ s. eight_rows s.table s.words.now s.good };
+    ghost eight = { λ s. run_eight s.table.room s.words.now s.table.taken s.good.eight };
 
-    ghost within = { λ s. rows_within s.table s.words.now s.good };
+    ghost within = { λ s. run_within s.table.room s.words.now s.table.taken s.good.few s.good.narrow s.good.ok };
 
     ghost lent = { λ s. s.words.now };
 
@@ -201,7 +203,7 @@ impl BitRows for RunRows<'_> {
 
     ghost layout = { RunsLaid };
 
-    ghost laid = { λ s. words_lie s.table s.words.now s.good };
+    ghost laid = { λ s. run_words_lie s.table.room s.words.now s.table.taken s.good.enough s.good.eight s.good.ok };
 
     ghost wrote = { run_wrote };
 

@@ -46,8 +46,9 @@ all_edges : list_all edges (range_with_len 0 56) ≡ true
 unfolding quarters
 all_edges = refl
 
--- above 64, the class by the place j of the highest bit of the number below the request, and by how often a quarter of that bit goes into it
-pub quarters_high_class : (b j : ℕ) → 64 < b → b ≤ 1048576 → 2 ^ j ≤ b - 1 → b - 1 < 2 * 2 ^ j → (6 ≤ j) × (4 * (j - 6) + (b - 1) / 2 ^ (j - 2) ≡ class_of quarters b)
+-- above 64, the class by the place j of the highest bit of the number below the request, and by how often a quarter of that bit goes into it, at most
+-- seven times
+pub quarters_high_class : (b j : ℕ) → 64 < b → b ≤ 1048576 → 2 ^ j ≤ b - 1 → b - 1 < 2 * 2 ^ j → (6 ≤ j) × ((b - 1) / 2 ^ (j - 2) < 8) × (4 * (j - 6) + (b - 1) / 2 ^ (j - 2) ≡ class_of quarters b)
 quarters_high_class b j above small over under =
     let x = b - 1 in
     let low : 6 ≤ j = elim (cases_lt j 6) [ inl l ↦ absurd (omega (arith, pow-le-pow_right {n = 2} (lit≤ tt) {i = j} {j = 5} (omega arith))) | inr l ↦ l ] in
@@ -72,6 +73,7 @@ quarters_high_class b j above small over under =
     let whole = div-add-mod' x p in
     let short = mod_below x p some in (
       low,
+      most,
       sym (class_is quarters quarters_plan b (4 * (j - 6) + q) (omega (arith, quarters_length))
           (omega (arith, here, more, whole, short))
           (λ _. omega (arith, before, whole))),

@@ -1,9 +1,8 @@
 // A plan by two formulas: the class of each request that is admitted, and the block of each class.
 ghost use Rattle.std.specs.Prelude.{◌≡◌, ℕ, ◌<◌, ◌≤◌, List, length, slice_index};
-ghost use Rattle.classes.specs.Plan.{Plan, largest, class_of};
+ghost use Rattle.classes.specs.Plan.{Plan, Classed, largest, class_of, class_answer, block_answer};
 
 use crate::common::{admitted, known};
-use crate::plan::SizeClasses;
 use crate::refusal::ClassRefusal;
 
 pub(crate) trait Formula {
@@ -36,22 +35,26 @@ pub(crate) trait Formula {
     ghost plan: { Plan listed };
 }
 
-impl<F: Formula> SizeClasses for F {
-    ghost blocks = { λ _. F.listed };
+// What a plan of two formulas answers: each plan's `impl` of `SizeClasses` is these three. One `impl` for all of them would
+// match every type, and a plan of another crate would not be the only one to meet the bound there.
 
-    fn classes(&self) -> u32 {
-        F::CLASSES
-    }
+pub(crate) fn class_count<F: Formula>() -> u32
+    ensures { result ≡ length F.listed }
+{
+    F::CLASSES
+}
 
-    fn class_of(&self, bytes: u32) -> Result<u32, ClassRefusal> {
-        let bytes = admitted(bytes, F::LARGEST_REQUEST)?;
-        Ok(F::class(bytes))
-    }
+pub(crate) fn lowest_class<F: Formula>(bytes: u32) -> Result<u32, ClassRefusal>
+    ensures value { result ≡ class_answer F.listed bytes }
+    ensures lowest { Classed F.listed bytes result }
+{
+    let bytes = admitted(bytes, F::LARGEST_REQUEST)?;
+    Ok(F::class(bytes))
+}
 
-    fn block_size(&self, class: u32) -> Result<u32, ClassRefusal> {
-        let class = known(class, F::CLASSES)?;
-        Ok(F::block(class))
-    }
-
-    ghost lawful = { λ _. F.plan };
+pub(crate) fn block_at<F: Formula>(class: u32) -> Result<u32, ClassRefusal>
+    ensures { result ≡ block_answer F.listed class }
+{
+    let class = known(class, F::CLASSES)?;
+    Ok(F::block(class))
 }

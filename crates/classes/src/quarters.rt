@@ -5,10 +5,30 @@ ghost use Rattle.classes.specs.Quarters.{quarters};
 ghost use Rattle.classes.specs.Lawful.{quarters_length, quarters_largest, quarters_plan};
 
 use crate::common::{sixteens_block, sixteenth};
-use crate::formula::Formula;
+use crate::formula::{Formula, block_at, class_count, lowest_class};
+use crate::plan::SizeClasses;
+use crate::refusal::ClassRefusal;
 
 #[derive(Clone, Copy)]
 pub struct Quarters;
+
+impl SizeClasses for Quarters {
+    ghost blocks = { λ _. quarters };
+
+    fn classes(&self) -> u32 {
+        class_count::<Self>()
+    }
+
+    fn class_of(&self, bytes: u32) -> Result<u32, ClassRefusal> {
+        lowest_class::<Self>(bytes)
+    }
+
+    fn block_size(&self, class: u32) -> Result<u32, ClassRefusal> {
+        block_at::<Self>(class)
+    }
+
+    ghost lawful = { λ _. quarters_plan };
+}
 
 impl Formula for Quarters {
     ghost listed = { quarters };

@@ -3,10 +3,30 @@ ghost use Rattle.classes.specs.Sixteens.{sixteens};
 ghost use Rattle.classes.specs.Lawful.{sixteens_length, sixteens_largest, sixteens_plan};
 
 use crate::common::{sixteens_block, sixteenth};
-use crate::formula::Formula;
+use crate::formula::{Formula, block_at, class_count, lowest_class};
+use crate::plan::SizeClasses;
+use crate::refusal::ClassRefusal;
 
 #[derive(Clone, Copy)]
 pub struct Sixteens;
+
+impl SizeClasses for Sixteens {
+    ghost blocks = { λ _. sixteens };
+
+    fn classes(&self) -> u32 {
+        class_count::<Self>()
+    }
+
+    fn class_of(&self, bytes: u32) -> Result<u32, ClassRefusal> {
+        lowest_class::<Self>(bytes)
+    }
+
+    fn block_size(&self, class: u32) -> Result<u32, ClassRefusal> {
+        block_at::<Self>(class)
+    }
+
+    ghost lawful = { λ _. sixteens_plan };
+}
 
 impl Formula for Sixteens {
     ghost listed = { sixteens };

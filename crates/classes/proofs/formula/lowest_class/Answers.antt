@@ -2,7 +2,7 @@ use Rattle.std.specs.Prelude.{◌≡◌, Ok}
 use Rattle.std.proofs.Common.{rules, sym, subst}
 use Rattle.classes.specs.Plan.{Classed, class_answer}
 use Rattle.classes.proofs.Plans.{classed}
-use Rattle.classes.proofs.formula.AnySizeClasses.class_of.Goals as goal
+use Rattle.classes.proofs.formula.lowest_class.Goals as goal
 
 pub returns-clause-lowest : goal.returns-clause-lowest
 returns-clause-lowest g c =

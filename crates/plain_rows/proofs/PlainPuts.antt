@@ -74,7 +74,7 @@ module _ (room : Room) (ws vs : List ℕ) (table : List Filled) (row : ℕ) (new
   row_new : bits_of (words_at L vs row) new.bits ≡ bs
   row_new = said L (words_at L vs row) bs new.bits now.fit long (omega arith)
 
-  kept_after : Kept L vs (set table row new)
+  pub kept_after : Kept L vs (set table row new)
   kept_after r h = ⊎_elim
       (λ (e : r ≡ row). rw (e, at_row, row_new) now.fit)
       (λ (ne : r ≡ row → ⊥). rw (at_other r ne, now.others r h ne) (sound.ok r h))

@@ -9,7 +9,7 @@ ghost use Rattle.plain_rows.specs.PlainSound.{length-rows, rows_within, words_li
 
 use rows::{
     BitRows, Footprint, LentRows, Room, RowIndex, RowsRefusal, check_position, check_put,
-    granted_room, known_row, zero_front,
+    granted_room, row_index, zero_front,
 };
 
 // How many bits a row has, and how many puts it has taken.
@@ -268,7 +268,7 @@ impl BitRows for PlainRows<'_> {
     }
 
     fn put(&mut self, row: u32, bit: bool, count: u32) -> Result<(), RowsRefusal> {
-        let row = known_row(row)?;
+        let row = row_index(row)?;
         let puts = self.row_puts(row);
         let bits = self.row_length(row);
         check_put(self.table.room, puts, bits, count)?;
@@ -277,12 +277,12 @@ impl BitRows for PlainRows<'_> {
     }
 
     fn length(&self, row: u32) -> Result<u32, RowsRefusal> {
-        let row = known_row(row)?;
+        let row = row_index(row)?;
         Ok(self.row_length(row))
     }
 
     fn zeros(&self, row: u32, position: u32) -> Result<u32, RowsRefusal> {
-        let row = known_row(row)?;
+        let row = row_index(row)?;
         check_position(self.row_length(row), position)?;
         Ok(self.row_zeros(row, position))
     }

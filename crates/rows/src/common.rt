@@ -1,20 +1,28 @@
 // What every store does: the tests that refuse, the room that is granted, and words that are set to 0.
-ghost use Rattle.std.specs.Prelude.{◌≡◌, ◌≤◌, length, replicate, MatchResult};
+ghost use Rattle.std.specs.Prelude.{◌≡◌, ◌<◌, ◌≤◌, length, replicate, IfOk, MatchResult};
 ghost use Rattle.rows.specs.Meaning.{row_answer, fit_answer, FitBy, end_answer, bounds_answer, words_answer, left_by, zeroed};
 
 use crate::refusal::RowsRefusal;
 use crate::room::Room;
 use crate::row::RowIndex;
 
-// The row, unless it is above 7. A function and no `TryFrom`: it is one of the tests of a store, with its refusal.
-pub fn known_row(row: u32) -> Result<RowIndex, RowsRefusal>
-    ensures { MatchResult result (λ r. row_answer row ≡ Ok r.index) (λ e. row_answer row ≡ Err e) }
+// The row, unless it is above 7.
+pub fn known_row(row: u32) -> Result<usize, RowsRefusal>
+    ensures answer { result ≡ row_answer row }
+    ensures low { IfOk result (λ n. n < 8) }
 {
     if row > 7 {
         return Err(RowsRefusal::NoSuchRow);
     }
+    Ok(row as usize)
+}
+
+// The same as an index. A function and no `TryFrom`: it is one of the tests of a store, with its refusal.
+pub fn row_index(row: u32) -> Result<RowIndex, RowsRefusal>
+    ensures { MatchResult result (λ r. row_answer row ≡ Ok r.index) (λ e. row_answer row ≡ Err e) }
+{
     Ok(RowIndex {
-        index: row as usize,
+        index: known_row(row)?,
     })
 }
 

@@ -8,7 +8,7 @@ mod row;
 mod store;
 
 pub use common::{
-    check_bounds, check_position, check_put, check_words, known_row, room_if, zero_front,
+    check_bounds, check_position, check_put, check_words, known_row, room_if, row_index, zero_front,
 };
 pub use lent::{Footprint, LentRows, granted_room};
 pub use refusal::RowsRefusal;

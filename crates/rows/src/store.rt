@@ -12,6 +12,11 @@ pub trait BitRows {
 
     ghost limits: { Self → Room };
 
+    // Proofs, as `laid` below is. They are no laws, which stand below the functions: a clause can name a proof and no law.
+    ghost eight: { (s : Self) → length (rows s) ≡ 8 };
+
+    ghost within: { (s : Self) → Within (limits s) (rows s) };
+
     // For promises on words alone: the words that are lent, and the name under which the lender knows them; how words
     // lie for a room and rows, and that these do; and what a put that is taken makes of the words, given the room, the
     // rows, the words, the row, the bit and the count, and what a clear makes of them.
@@ -20,6 +25,8 @@ pub trait BitRows {
     ghost place: { Self → ℕ };
 
     ghost layout: { Room → List Row → List ℕ → Type 0 };
+
+    ghost laid: { (s : Self) → layout (limits s) (rows s) (lent s) };
 
     ghost wrote: { Room → List Row → List ℕ → ℕ → Bool → ℕ → List ℕ };
 
@@ -51,11 +58,4 @@ pub trait BitRows {
     // How many of a row's first `position` bits are 0.
     fn zeros(&self, row: u32, position: u32) -> Result<u32, RowsRefusal>
         ensures { result ≡ zeros_answer (rows self.now) row position };
-
-    // The rows are eight, they are within the room, and the words lie as the layout says.
-    ghost eight: { (s : Self) → length (rows s) ≡ 8 };
-
-    ghost within: { (s : Self) → Within (limits s) (rows s) };
-
-    ghost laid: { (s : Self) → layout (limits s) (rows s) (lent s) };
 }

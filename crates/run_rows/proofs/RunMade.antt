@@ -27,7 +27,7 @@ laid_blank most wide (suc k) rest =
       more = rw (drop_at (replicate most 0) (replicate (most * k) 0 ++ rest) most (length-replicate most 0)) (laid_blank most wide k rest);
     }))
 
-laid_zeroed : (most wide : ℕ) (ws : List ℕ) → well_laid most wide (zeroed (8 * most) ws) (replicate 8 0) ≡ true
+pub laid_zeroed : (most wide : ℕ) (ws : List ℕ) → well_laid most wide (zeroed (8 * most) ws) (replicate 8 0) ≡ true
 laid_zeroed most wide ws = rw (mul_comm 8 most) (laid_blank most wide 8 (drop (most * 8) ws))
 
 pub sound_wiped : (room : Room) (ws : List ℕ) → room.puts ≤ 512 → room.bits ≤ 33554432 → run_used room ≤ length ws → Sound room (run_wiped room ws) (replicate 8 0)

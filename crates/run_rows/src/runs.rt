@@ -10,7 +10,7 @@ ghost use Rattle.run_rows.specs.RunLaid.{run_words_lie};
 use crate::mark::Mark;
 use rows::{
     BitRows, Footprint, LentRows, Room, RowIndex, RowsRefusal, check_position, check_put,
-    granted_room, known_row, zero_front,
+    granted_room, row_index, zero_front,
 };
 
 // What a store keeps beside its words: its room, and the puts of each row.
@@ -218,7 +218,7 @@ impl BitRows for RunRows<'_> {
     }
 
     fn put(&mut self, row: u32, bit: bool, count: u32) -> Result<(), RowsRefusal> {
-        let row = known_row(row)?;
+        let row = row_index(row)?;
         let puts = self.row_puts(row);
         check_put(self.table.room, puts, self.row_length(row), count)?;
         self.push(row, bit, count);
@@ -226,12 +226,12 @@ impl BitRows for RunRows<'_> {
     }
 
     fn length(&self, row: u32) -> Result<u32, RowsRefusal> {
-        let row = known_row(row)?;
+        let row = row_index(row)?;
         Ok(self.row_length(row))
     }
 
     fn zeros(&self, row: u32, position: u32) -> Result<u32, RowsRefusal> {
-        let row = known_row(row)?;
+        let row = row_index(row)?;
         check_position(self.row_length(row), position)?;
         Ok(self.row_zeros(row, position))
     }

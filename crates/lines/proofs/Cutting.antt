@@ -8,15 +8,15 @@ use Rattle.std.proofs.lemmas.Bool.Decides.{nat_tests}
 use Rattle.std.proofs.lemmas.Bool.{cases_lt, cond_both, eqb-true, eqb-false}
 use Rattle.lines.specs.Lines.{onto_first, lines_of, Endless, Lines, CutInto}
 
-cut : (xs ys : List ℕ) → Endless xs → lines_of (xs ++ (10 ∷ ys)) ≡ xs ∷ lines_of ys
+pub cut : (xs ys : List ℕ) → Endless xs → lines_of (xs ++ (10 ∷ ys)) ≡ xs ∷ lines_of ys
 cut [] ys h = refl
 cut (x ∷ xs) ys h = grind (arith, nat_tests, cut xs ys h.1)
 
-last_line : (x : ℕ) (xs : List ℕ) → Endless (x ∷ xs) → lines_of (x ∷ xs) ≡ (x ∷ xs) ∷ []
+pub last_line : (x : ℕ) (xs : List ℕ) → Endless (x ∷ xs) → lines_of (x ∷ xs) ≡ (x ∷ xs) ∷ []
 last_line x [] h = grind (arith, nat_tests)
 last_line x (y ∷ ys) h = grind (arith, nat_tests, last_line y ys h.1)
 
-only_line : (xs : List ℕ) → 1 ≤ length xs → Endless xs → lines_of xs ≡ xs ∷ []
+pub only_line : (xs : List ℕ) → 1 ≤ length xs → Endless xs → lines_of xs ≡ xs ∷ []
 only_line [] some h = absurd (omega arith)
 only_line (x ∷ xs) some h = last_line x xs h
 

@@ -32,13 +32,16 @@ written_more ds n d m w is digits =
     let p = digits_parts ds (d ∷ []) digits in
     omega (arith, w p.0, digit_value_digit d (digit_from_value d p.1.0), digits_value_push 10 ds d)
 
--- fewer than nine digits leave room for one more
+-- fewer than nine digits write a number that has room for one digit more
+pub below : (ds : List ℕ) → AllDigits 10 ds → length ds ≤ 8 → digits_value 10 ds < 100000000
+below ds digits few = omega (arith, digits_value-lt 10 ds digits, pow-le-pow_right {n = 10} (lit< tt) few)
+
 pub room : (ds more : List ℕ) (n d : ℕ) → AllDigits 10 (ds ++ (d ∷ more)) → length (ds ++ (d ∷ more)) ≤ 9 → Worth ds n → (n < 100000000) × (48 ≤ d) × (d ≤ 57)
 room ds more n d digits short w =
     let p = digits_parts ds (d ∷ more) digits in
     let few : length ds ≤ 8 = omega (arith, length-append ds (d ∷ more)) in
     let range = digit_from_value d p.1.0 in
-    (omega (arith, w p.0, digits_value-lt 10 ds p.0, pow-le-pow_right {n = 10} (lit< tt) few), range.0, range.1)
+    (omega (arith, w p.0, below ds p.0 few), range.0, range.1)
 
 -- what a number of digits from 1 to 9 is
 pub within_nine : (k n : ℕ) → Ok n ≡ one_to_nine k → (n ≡ k) × (1 ≤ n) × (n ≤ 9)

@@ -15,7 +15,7 @@ use profile::Profile;
 
 // What the line's call answers; a refusal of the reader, of the profile or of its plan comes out as it is.
 pub fn answer<P: SizeClasses>(profile: &mut Profile<P>, line: &[u8]) -> Result<Answer, LineRefusal>
-    ensures told { Told profile.old profile.new (λ s h. after_line s h (reads line.now)) (λ s h. answered s h (reads line.now)) result }
+    ensures told { Told P.blocks profile.old profile.new (λ s h. after_line s h (reads line.now)) (λ s h. answered s h (reads line.now)) result }
     ensures refused { is_ok result ≡ false → profile.new ≡ profile.old }
 {
     match read(line)? {
@@ -33,7 +33,7 @@ pub(crate) fn reply<P: SizeClasses>(
     place: u32,
     line: &[u8],
 ) -> Result<(), TextError>
-    ensures { Replied profile.old profile.new place line.now (string_bytes out.old) (string_bytes out.new) result }
+    ensures { Replied P.blocks profile.old profile.new place line.now (string_bytes out.old) (string_bytes out.new) result }
 {
     match answer(profile, line) {
         Ok(answer) => show(out, &answer),

@@ -3,5 +3,4 @@ pub mod Passing
 pub mod Refusals
 pub mod History
 pub mod Noting
-pub mod Keeping
 pub mod Stands

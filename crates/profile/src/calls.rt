@@ -2,7 +2,7 @@
 ghost use Rattle.std.specs.Prelude.{◌≡◌, false, is_ok};
 ghost use Rattle.profile.specs.History.{fresh};
 ghost use Rattle.profile.specs.Noting.{note_answer, after_note, NotedBy};
-ghost use Rattle.profile.specs.Stands.{Stands, Told, Wherever};
+ghost use Rattle.profile.specs.Stands.{setting, Stands, Told, Wherever};
 
 use crate::noting::record_of;
 use crate::pending::Pending;
@@ -21,7 +21,7 @@ impl<P: SizeClasses> Profile<P> {
     // A new profile over a plan: nothing is noted.
     pub fn new(plan: P) -> Profile<P>
         ensures plan { result.plan ≡ plan }
-        ensures stands { Stands fresh result }
+        ensures stands { Stands (setting (P.blocks plan)) fresh result }
     {
         Profile {
             plan,
@@ -31,8 +31,8 @@ impl<P: SizeClasses> Profile<P> {
 
     // Notes so many requests of so many bytes as one record; the number of records then held.
     pub fn note(&mut self, bytes: u32, count: u32) -> Result<u32, Refusal>
-        ensures told { Told self.old self.new (λ s h. after_note s h bytes count) (λ s h. note_answer s h bytes count) result }
-        ensures why { Wherever self.old (λ s h. NotedBy s h bytes count result) }
+        ensures told { Told P.blocks self.old self.new (λ s h. after_note s h bytes count) (λ s h. note_answer s h bytes count) result }
+        ensures why { Wherever P.blocks self.old (λ s h. NotedBy s h bytes count result) }
         ensures refused { is_ok result ≡ false → self.new ≡ self.old }
     {
         let item = record_of(&self.plan, bytes, count)?;

@@ -1,7 +1,7 @@
 // The pending records: which request becomes which record, and whether there is room for it.
 ghost use Rattle.std.specs.Prelude.{◌≡◌, length};
 ghost use Rattle.profile.specs.Noting.{count_answer, record_answer, room_answer};
-ghost use Rattle.profile.specs.Stands.{Emptied, Added};
+ghost use Rattle.profile.specs.Stands.{held, Emptied, Added};
 
 use crate::pending::{Pending, Record};
 use crate::refusal::Refusal;
@@ -44,7 +44,7 @@ impl Pending {
 
     // Refuses where there is no room for one record more of this count.
     fn check_room(&self, count: u16, room: Room) -> Result<(), Refusal>
-        ensures { result ≡ room_answer room.records room.total (length self.now.records.items) self.now.total count }
+        ensures { result ≡ room_answer room.records room.total (length (held self.now)) self.now.total count }
     {
         if self.records.len() >= room.records {
             return Err(Refusal::RecordsFull);

@@ -1,16 +1,12 @@
 use Rattle.std.proofs.Common.{◌≡◌, ◌+◌, ◌∷◌, eqb, length, ap, append_assoc, length-append, arith, rules}
 use Rattle.std.proofs.lemmas.List.Sorted.{answers_always}
 use Rattle.classes.specs.Sixteens.{sixteens}
-use Rattle.profile.specs.History.{fresh}
 use Rattle.profile.specs.Stands.{setting}
 use Rattle.lines.specs.Answering.{after_line}
 use Rattle.lines.specs.Lines.{lines_of}
 use Rattle.lines.specs.Reading.{reads}
 use Rattle.lines.proofs.Cutting.{next_line}
 use Rattle.lines.proofs.whole.run.Goals as goal
-
-pub loop-place-init : goal.loop-place-init
-loop-place-init c = (search rules, (fresh, c.new-profile.ensures.stands, search rules))
 
 pub loop-place-preserved : goal.loop-place-preserved
 loop-place-preserved c =

@@ -12,4 +12,4 @@ invariant-loop-place l =
     let place = l.place-iterator.a.start in
     let rest = l.place-iterator.b.rest.now in
     (place + length rest ≤ 32769)
-    × ((h : History) × Stands h l.profile × (string_bytes l.out ++ replies (setting sixteens) h place (lines_of rest) ≡ run_of l.input))
+    × ((h : History) × Stands (setting sixteens) h l.profile × (string_bytes l.out ++ replies (setting sixteens) h place (lines_of rest) ≡ run_of l.input))

@@ -158,6 +158,7 @@ fn main(rt: HostRuntime) -> io::Result<()> {
 #[cfg(test)]
 mod tests {
     use super::*;
+    use profile::Profile;
     use std::process::Abort;
     use std::test::Fail;
 
@@ -237,6 +238,58 @@ mod tests {
             same(&rt, &Quarters, block);
             same(&rt, &Quarters, block.saturating_add(1));
             same(&rt, &Quarters, block.saturating_sub(1));
+        }
+        Ok(())
+    }
+
+    // a plan over any other
+    #[derive(Drop)]
+    struct Over<P> {
+        inner: P,
+    }
+
+    impl<P: SizeClasses> SizeClasses for Over<P> {
+        ghost blocks = { λ x. P.blocks x.inner };
+
+        fn classes(&self) -> u32 {
+            self.inner.classes()
+        }
+
+        fn class_of(&self, bytes: u32) -> Result<u32, ClassRefusal> {
+            self.inner.class_of(bytes)
+        }
+
+        fn block_size(&self, class: u32) -> Result<u32, ClassRefusal> {
+            self.inner.block_size(class)
+        }
+
+        ghost lawful = { λ x. P.lawful x.inner };
+    }
+
+    // A profile may stand in a field, and in a recursive type, of every generic plan.
+    #[derive(Drop)]
+    struct Held<P: SizeClasses> {
+        profile: Profile<Over<P>>,
+    }
+
+    #[derive(Drop)]
+    enum Chain<P: SizeClasses> {
+        End,
+        More(Profile<P>, Box<Chain<P>>),
+    }
+
+    #[test]
+    fn profiles_in_generic_types(rt: HostRuntime) -> Result<(), Fail> {
+        let mut held = Held {
+            profile: Profile::new(Over { inner: Sixteens }),
+        };
+        assert_eq!(rt; held.profile.note(33, 2), Ok(1));
+        assert_eq!(rt; held.profile.note(4_096, 1), Ok(2));
+        let end = Box::new(rt.alloc(), Chain::End)?;
+        let chain = Chain::More(Profile::new(Quarters), end);
+        match chain {
+            Chain::More(mut profile, _) => assert_eq!(rt; profile.note(65, 2), Ok(1)),
+            Chain::End => assert!(rt; false),
         }
         Ok(())
     }

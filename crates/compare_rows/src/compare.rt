@@ -1,51 +1,48 @@
 // Seeded calls to two stores and to plain lists of bits, and whether their answers are alike.
-use crate::listed::Listed;
+use crate::listed::{Listed, Rule};
 use rows::{BitRows, Room, RowsRefusal};
 use std::alloc::{AllocError, Global};
-use std::collections::BTreeSet;
 use std::fmt;
 
 pub fn said(yes: bool) -> &'static str {
     if yes { "yes" } else { "no" }
 }
 
-// How many answers were compared, and how many differed; the numbers of the refusals that came; and whether some row
-// was full, and some a whole number of words long.
-#[derive(Drop)]
+// How many answers were compared, and how many differed; whether each of the five refusals of the rules came, in the
+// order of their numbers; and whether some row was full, and some a whole number of words long.
+#[derive(Clone, Copy, Default)]
 pub struct Seen {
-    answers: u32,
-    differ: u32,
-    refusals: BTreeSet<u32>,
-    full: bool,
-    whole: bool,
+    pub answers: u32,
+    pub differ: u32,
+    // five flags and no set: what is seen of an answer takes no memory, so no call fails for want of it
+    refused: [bool; 5],
+    pub full: bool,
+    pub whole: bool,
 }
 
 impl Seen {
-    fn nothing(heap: Global) -> Seen {
-        Seen {
-            answers: 0,
-            differ: 0,
-            refusals: BTreeSet::new(heap),
-            full: false,
-            whole: false,
-        }
+    // How many of the five refusals came.
+    pub fn refusals(&self) -> usize {
+        self.refused.iter().filter(|&&came| came).count()
     }
 
-    // The answers of the two stores and of the lists to one call.
+    // The answers of the two stores and of the lists to one call. Refusals are compared by their numbers.
     fn note<T: PartialEq + Drop>(
         &mut self,
         first: Result<T, RowsRefusal>,
         second: Result<T, RowsRefusal>,
-        listed: Result<T, RowsRefusal>,
-    ) -> Result<(), AllocError> {
+        listed: Result<T, Rule>,
+    ) {
+        if let Err(rule) = listed {
+            self.refused[rule.place()] = true;
+        }
+        let first = first.map_err(RowsRefusal::number);
+        let second = second.map_err(RowsRefusal::number);
+        let listed = listed.map_err(Rule::number);
         self.answers = self.answers.saturating_add(1);
         if first != listed || second != listed {
             self.differ = self.differ.saturating_add(1);
         }
-        if let Err(refusal) = listed {
-            self.refusals.insert(refusal.number())?;
-        }
-        Ok(())
     }
 
     // The length of a row with this room.
@@ -59,7 +56,7 @@ impl fmt::Display for Seen {
     fn fmt<W: fmt::Write>(&self, f: &mut fmt::Formatter<W>) -> fmt::Result {
         let answers = self.answers;
         let differ = self.differ;
-        let refusals = self.refusals.len();
+        let refusals = self.refusals();
         let full = said(self.full);
         let whole = said(self.whole);
         write!(
@@ -166,7 +163,7 @@ impl<A: BitRows + Drop, B: BitRows + Drop> Comparison<A, B> {
             first,
             second,
             listed,
-            seen: Seen::nothing(heap),
+            seen: Seen::default(),
         })
     }
 
@@ -183,25 +180,25 @@ impl<A: BitRows + Drop, B: BitRows + Drop> Comparison<A, B> {
 
     // The next three give all three a call, and note their answers. They are three functions, since the stores differ in
     // type and no one closure can be called on both.
-    fn put(&mut self, row: u32, bit: bool, count: u32) -> Result<(), AllocError> {
+    fn put(&mut self, row: u32, bit: bool, count: u32) {
         let first = self.first.put(row, bit, count);
         let second = self.second.put(row, bit, count);
         let listed = self.listed.put(row, bit, count);
-        self.seen.note(first, second, listed)
+        self.seen.note(first, second, listed);
     }
 
-    fn length(&mut self, row: u32) -> Result<(), AllocError> {
+    fn length(&mut self, row: u32) {
         let first = self.first.length(row);
         let second = self.second.length(row);
         let listed = self.listed.length(row);
-        self.seen.note(first, second, listed)
+        self.seen.note(first, second, listed);
     }
 
-    fn zeros(&mut self, row: u32, position: u32) -> Result<(), AllocError> {
+    fn zeros(&mut self, row: u32, position: u32) {
         let first = self.first.zeros(row, position);
         let second = self.second.zeros(row, position);
         let listed = self.listed.zeros(row, position);
-        self.seen.note(first, second, listed)
+        self.seen.note(first, second, listed);
     }
 
     // The length of a row in the lists, or 0 where there is no such row.
@@ -210,21 +207,20 @@ impl<A: BitRows + Drop, B: BitRows + Drop> Comparison<A, B> {
     }
 
     // The length of a row, and the zeros at its start, at its end and past it, at a multiple of 64 and somewhere.
-    fn ask(&mut self, row: u32, drawn: u64) -> Result<(), AllocError> {
+    fn ask(&mut self, row: u32, drawn: u64) {
         let room = self.room();
         let length = self.listed_length(row);
         let past = length.saturating_add(1);
         let somewhere = pick(drawn, past);
         self.seen.note_length(length, room);
-        self.length(row)?;
+        self.length(row);
         for position in [0, length, past, somewhere / 64 * 64, somewhere] {
-            self.zeros(row, position)?;
+            self.zeros(row, position);
         }
-        Ok(())
     }
 
     // One put, mostly to row 3, and then the questions on its row and on another; now and then a clear before it.
-    fn turn(&mut self, random: &mut Random, puts: Puts) -> Result<(), AllocError> {
+    fn turn(&mut self, random: &mut Random, puts: Puts) {
         let room = self.room();
         if random.below(room.puts.saturating_mul(4).saturating_add(16)) == 0 {
             self.clear();
@@ -236,20 +232,20 @@ impl<A: BitRows + Drop, B: BitRows + Drop> Comparison<A, B> {
         let number = random.below(puts.rare);
         let other = random.below(puts.most).saturating_add(1);
         let count = Kind::drawn(number, other).bits(self.listed_length(row), room);
-        self.put(row, bit, count)?;
+        self.put(row, bit, count);
         let drawn = random.draw();
-        self.ask(row, drawn)?;
-        self.ask(pick(drawn, 8), random.draw())
+        self.ask(row, drawn);
+        self.ask(pick(drawn, 8), random.draw());
     }
 
     // So many turns. Eight drawn numbers go unused before the first turn, and one after each.
-    pub fn run(mut self, seed: u64, turns: u32, puts: Puts) -> Result<Seen, AllocError> {
+    pub fn run(mut self, seed: u64, turns: u32, puts: Puts) -> Seen {
         let mut random = Random { state: seed };
         random.skip(8);
         for _ in 0..turns {
-            self.turn(&mut random, puts)?;
+            self.turn(&mut random, puts);
             random.skip(1);
         }
-        Ok(self.seen)
+        self.seen
     }
 }

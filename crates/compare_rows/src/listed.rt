@@ -1,8 +1,31 @@
 // Eight rows as plain lists of bits, with the rules of a store written out once more.
 ghost use Rattle.std.specs.Prelude.{◌<◌, ◌≤◌, ◌^◌, vec_len, vec_capacity};
 
-use rows::{Room, RowsRefusal};
+use rows::Room;
 use std::alloc::{AllocError, Global};
+
+// Why the lists refuse, each with its number, written out apart from the stores' own.
+#[derive(Clone, Copy, PartialEq, Eq)]
+pub enum Rule {
+    NoSuchRow = 23,
+    EmptyPut = 24,
+    PutsFull = 25,
+    RowTooLong = 26,
+    PastEnd = 27,
+}
+
+impl Rule {
+    pub fn number(self) -> u32 {
+        self as u32
+    }
+
+    // The place among the five.
+    pub fn place(self) -> usize
+        ensures { result < 5 }
+    {
+        self as usize - 23
+    }
+}
 
 // A row's bits, and how many puts it has taken. Memory for all the bits that it has room for is taken at the start.
 #[derive(Drop)]
@@ -30,16 +53,16 @@ impl ListedRow {
         self.puts = 0;
     }
 
-    fn put(&mut self, bit: bool, count: u32) -> Result<(), RowsRefusal> {
+    fn put(&mut self, bit: bool, count: u32) -> Result<(), Rule> {
         if count == 0 {
-            return Err(RowsRefusal::EmptyPut);
+            return Err(Rule::EmptyPut);
         }
         if self.puts >= self.room.puts {
-            return Err(RowsRefusal::PutsFull);
+            return Err(Rule::PutsFull);
         }
         let length = self.bits.len() + count as usize;
         if length > self.room.bits as usize {
-            return Err(RowsRefusal::RowTooLong);
+            return Err(Rule::RowTooLong);
         }
         self.bits.resize(length, bit).unwrap();
         self.puts += 1;
@@ -51,11 +74,8 @@ impl ListedRow {
         self.bits.len() as u32
     }
 
-    fn zeros(&self, position: u32) -> Result<u32, RowsRefusal> {
-        let front = self
-            .bits
-            .get(..position as usize)
-            .ok_or(RowsRefusal::PastEnd)?;
+    fn zeros(&self, position: u32) -> Result<u32, Rule> {
+        let front = self.bits.get(..position as usize).ok_or(Rule::PastEnd)?;
         // by `short` the cast loses nothing
         Ok(front.iter().filter(|&&bit| !bit).count() as u32)
     }
@@ -75,14 +95,12 @@ impl Listed {
         Ok(Listed { rows })
     }
 
-    fn row(&self, row: u32) -> Result<&ListedRow, RowsRefusal> {
-        self.rows.get(row as usize).ok_or(RowsRefusal::NoSuchRow)
+    fn row(&self, row: u32) -> Result<&ListedRow, Rule> {
+        self.rows.get(row as usize).ok_or(Rule::NoSuchRow)
     }
 
-    fn row_mut(&mut self, row: u32) -> Result<&mut ListedRow, RowsRefusal> {
-        self.rows
-            .get_mut(row as usize)
-            .ok_or(RowsRefusal::NoSuchRow)
+    fn row_mut(&mut self, row: u32) -> Result<&mut ListedRow, Rule> {
+        self.rows.get_mut(row as usize).ok_or(Rule::NoSuchRow)
     }
 
     pub fn clear(&mut self) {
@@ -91,15 +109,15 @@ impl Listed {
         }
     }
 
-    pub fn put(&mut self, row: u32, bit: bool, count: u32) -> Result<(), RowsRefusal> {
+    pub fn put(&mut self, row: u32, bit: bool, count: u32) -> Result<(), Rule> {
         self.row_mut(row)?.put(bit, count)
     }
 
-    pub fn length(&self, row: u32) -> Result<u32, RowsRefusal> {
+    pub fn length(&self, row: u32) -> Result<u32, Rule> {
         Ok(self.row(row)?.length())
     }
 
-    pub fn zeros(&self, row: u32, position: u32) -> Result<u32, RowsRefusal> {
+    pub fn zeros(&self, row: u32, position: u32) -> Result<u32, Rule> {
         self.row(row)?.zeros(position)
     }
 }

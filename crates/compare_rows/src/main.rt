@@ -42,7 +42,7 @@ fn print_case(rt: &HostRuntime, room: Room, like: Puts, seed: u64) -> anyhow::Re
     let by_plain = PlainRows::new(room, &mut more);
     let comparison = Comparison::new(heap, by_run, by_plain)?;
     let granted = comparison.room();
-    let seen = comparison.run(seed, TURNS, like)?;
+    let seen = comparison.run(seed, TURNS, like);
     let puts = room.puts;
     let bits = room.bits;
     // the numbers of words are written out here, beside what the stores say of themselves

@@ -36,7 +36,7 @@ pub(crate) trait Formula {
 }
 
 // What a plan of two formulas answers: each plan's `impl` of `SizeClasses` is these three. One `impl` for all of them would
-// match every type, and a plan of another crate would not be the only one to meet the bound there.
+// match every type: the `impl` of a plan of another crate would then be a second match of the bound there.
 
 pub(crate) fn class_count<F: Formula>() -> u32
     ensures { result ≡ length F.listed }

@@ -1,5 +1,6 @@
 // A list of at most N items. The library has no heap: the slots are an array, with the number of those in use beside it.
-// Its invariant is a ghost field: a value with a model is not always left behind when another is moved out beside it.
+// Its invariant is a ghost field: a value with a model cannot always be left behind when another part of the same variant
+// is moved out.
 ghost use Rattle.std.specs.Prelude.{◌≡◌, ◌<◌, ◌≤◌, [], length};
 
 #[derive(Drop)]

@@ -1,5 +1,7 @@
 #![tactic(auto)]
 // Prints worked cases: what the library says of some requests, and what a plain search over the blocks says.
+ghost use Rattle.std.specs.Prelude.{◌≤◌, length};
+
 use classes::{ClassRefusal, Quarters, Sixteens, SizeClasses};
 use std::{fmt, io};
 
@@ -276,6 +278,28 @@ mod tests {
     enum Chain<P: SizeClasses> {
         End,
         More(Profile<P>, Box<Chain<P>>),
+    }
+
+    // A type may have a fact that names the blocks of its plan, and be made of every plan.
+    #[derive(Drop)]
+    struct Counted<P: SizeClasses> {
+        plan: P,
+        classes: u32,
+        ghost within: { classes ≤ length (P.blocks plan) },
+    }
+
+    impl<P: SizeClasses> Counted<P> {
+        fn over(plan: P) -> Counted<P> {
+            let classes = plan.classes();
+            Counted { plan, classes }
+        }
+    }
+
+    #[test]
+    fn facts_of_other_plans(rt: HostRuntime) {
+        let counted = Counted::over(Over { inner: Quarters });
+        assert_eq!(rt; counted.classes, 60);
+        assert_eq!(rt; counted.plan.block_size(59), Ok(1_048_576));
     }
 
     #[test]
